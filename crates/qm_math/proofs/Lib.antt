@@ -1,0 +1,4 @@
+pub mod Whole
+pub mod Between
+pub mod Searches
+pub mod Compare

@@ -1,0 +1,20 @@
+-- Fractions of whole numbers without a bound on their size, compared multiplied out.
+use Rattle.std.specs.Prelude.{◌≡◌, ℕ, ◌*◌, ℤ, pos, ◌+ℤ◌, ◌*ℤ◌, ◌≤ℤ◌, ◌<ℤ◌}
+
+-- num / den, where den is above 0
+pub record Fraction : Type 0 where
+  pub num : ℤ
+  pub den : ℕ
+
+abbrev pub whole : ℤ → Fraction
+whole n = record { num = n; den = 1 }
+
+abbrev pub IsAtMost : Fraction → Fraction → Type 0
+IsAtMost a b = (a.num *ℤ pos b.den) ≤ℤ (b.num *ℤ pos a.den)
+
+abbrev pub IsBelow : Fraction → Fraction → Type 0
+IsBelow a b = (a.num *ℤ pos b.den) <ℤ (b.num *ℤ pos a.den)
+
+-- the same number, however it is written
+abbrev pub IsSame : Fraction → Fraction → Type 0
+IsSame a b = a.num *ℤ pos b.den ≡ b.num *ℤ pos a.den

@@ -1,0 +1,10 @@
+pub mod Linear
+pub mod Sizes
+pub mod Boxes
+pub mod Plays
+pub mod Legal
+pub mod Points
+pub mod Goals
+pub mod Wins
+pub mod Endings
+pub mod Sound

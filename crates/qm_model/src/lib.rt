@@ -1,0 +1,16 @@
+//! Quantified programs: their plain data, and what it means to win one.
+//! The definitions stand in `specs/`, one subject a file: linear forms, sizes, boxes, universal
+//! plays, legal prefixes, points, goals, winning and endings.
+#![tactic(auto)]
+
+mod game;
+mod laws;
+mod range;
+mod row;
+mod variable;
+
+pub use game::{Game, Problem, Sense};
+pub use laws::{a_problem_has_one_ending, an_easier_goal_is_won, legal_means_some_play_agrees};
+pub use range::Range;
+pub use row::{Row, Term, Terms};
+pub use variable::{Player, Var};
