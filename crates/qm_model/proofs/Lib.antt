@@ -1,0 +1,4 @@
+pub mod Forms
+pub mod TermSums
+pub mod Sizes
+pub mod BoxLaws
