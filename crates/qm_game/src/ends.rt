@@ -12,11 +12,8 @@ fn least_part(term: Term, range: Range) -> i128
     requires { unsigned_abs term.coef * reach range.low range.high ≤ 2 ^ 126 }
     ensures { result ≡ least_product term.coef range.low range.high }
 {
-    if term.coef >= 0 {
-        product(term.coef, i128::from(range.low))
-    } else {
-        product(term.coef, i128::from(range.high))
-    }
+    let end = if term.coef >= 0 { range.low } else { range.high };
+    product(term.coef, i128::from(end))
 }
 
 /// The coefficient times the end of the range that makes it greatest.
@@ -24,11 +21,8 @@ fn most_part(term: Term, range: Range) -> i128
     requires { unsigned_abs term.coef * reach range.low range.high ≤ 2 ^ 126 }
     ensures { result ≡ greatest_product term.coef range.low range.high }
 {
-    if term.coef >= 0 {
-        product(term.coef, i128::from(range.high))
-    } else {
-        product(term.coef, i128::from(range.low))
-    }
+    let end = if term.coef >= 0 { range.high } else { range.low };
+    product(term.coef, i128::from(end))
 }
 
 fn least_of(terms: &[Term], bx: &[Range]) -> i128
