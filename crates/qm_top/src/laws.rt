@@ -10,5 +10,4 @@ pub fn a_small_text_is_answered()
     ensures { (words : List (List ℕ)) (read : Reading) (status : ℕ) (text : List ℕ) (bytes : List ℕ) (P : Problem) →
         Asks Solve words → read.before ≡ Some bytes → IsSmallText bytes P → read.faults_after ≡ read.faults_before → read.faults_before < 2 ^ 64 - 1 →
         IsAnswer words read status text → (status ≡ 0) ⊎ (status ≡ 10) }
-{
-}
+{}

@@ -10,3 +10,6 @@ mod top;
 
 pub use laws::a_small_text_is_answered;
 pub use top::run;
+
+#[cfg(test)]
+mod tests;
