@@ -1,3 +1,4 @@
 pub mod Fraction
+pub mod Arithmetic
 pub mod Ranges
 pub mod Sums
