@@ -7,3 +7,4 @@ pub mod Polynomials
 pub mod Ring
 pub mod FractionRing
 pub mod FractionLaws
+pub mod FractionOrder

@@ -49,6 +49,19 @@ ring_from items a b k x y h e =
   summed : (a b x y : ℤ) → a +ℤ y ≡ b +ℤ x → x ≡ y → a ≡ b
   summed a b x y e h = omega (arith, ints)
 
+-- the same from two known equations
+pub ring_from_two : (items : List ℤ) (a b k x y : Expression) → value items x ≡ value items y
+    → (l v w : Expression) → value items v ≡ value items w
+    → normal (a ⊕ (k ⊗ y ⊕ l ⊗ w)) ≡ normal (b ⊕ (k ⊗ x ⊕ l ⊗ v)) → value items a ≡ value items b
+ring_from_two items a b k x y h l v w g e =
+    summed (value items a) (value items b) (value items k *ℤ value items x) (value items k *ℤ value items y)
+    (value items l *ℤ value items v) (value items l *ℤ value items w)
+    (ring items (a ⊕ (k ⊗ y ⊕ l ⊗ w)) (b ⊕ (k ⊗ x ⊕ l ⊗ v)) e)
+    (ap (λ n. value items k *ℤ n) h) (ap (λ n. value items l *ℤ n) g)
+  where
+  summed : (a b x y v w : ℤ) → a +ℤ (y +ℤ w) ≡ b +ℤ (x +ℤ v) → x ≡ y → v ≡ w → a ≡ b
+  summed a b x y v w e h g = omega (arith, ints)
+
 -- a is at most b if a known order x ≤ y makes up the difference
 pub ring_le : (items : List ℤ) (a b x y : Expression)
     → value items x ≤ℤ value items y → normal (b ⊕ x) ≡ normal (a ⊕ y) → value items a ≤ℤ value items b
