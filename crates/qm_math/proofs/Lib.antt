@@ -8,3 +8,5 @@ pub mod Ring
 pub mod FractionRing
 pub mod FractionLaws
 pub mod FractionOrder
+pub mod Sums
+pub mod Totals
