@@ -10,3 +10,4 @@ pub mod FractionLaws
 pub mod FractionOrder
 pub mod Sums
 pub mod Totals
+pub mod Combinations

@@ -1,8 +1,8 @@
 -- Equations and orders of whole numbers, proved by computing normal forms.
 -- `ring items a b refl` proves an equation of a ring: the items are the numbers that the expressions name as x0, x1 and so on.
-use Rattle.std.proofs.Common.{◌≡◌, ◌∙◌, sym, ap, List, arith, ℤ, pos, ◌+ℤ◌, ◌*ℤ◌, ◌≤ℤ◌, ◌<ℤ◌}
+use Rattle.std.proofs.Common.{◌≡◌, ◌∙◌, sym, refl, ap, ap₂, List, [], ◌∷◌, arith, ℤ, pos, ◌+ℤ◌, ◌*ℤ◌, ◌≤ℤ◌, ◌<ℤ◌}
 use Rattle.std.proofs.lemmas.Int.{ints}
-use Rattle.qm_math.proofs.Polynomials.{Expression, item, ◌⊕◌, ◌⊗◌, value, normal, sum_of_terms, normal_value}
+use Rattle.qm_math.proofs.Polynomials.{Expression, item, number, ◌⊕◌, ◌⊗◌, value, normal, sum_of_terms, normal_value}
 
 abbrev pub x0 : Expression
 x0 = item 0
@@ -38,29 +38,39 @@ x9 = item 9
 pub ring : (items : List ℤ) (a b : Expression) → normal a ≡ normal b → value items a ≡ value items b
 ring items a b e = sym (normal_value items a) ∙ ap (sum_of_terms items) e ∙ normal_value items b
 
--- a equals b if a known equation x = y, times k, makes up the difference
-pub ring_from : (items : List ℤ) (a b k x y : Expression)
-    → value items x ≡ value items y → normal (a ⊕ k ⊗ y) ≡ normal (b ⊕ k ⊗ x) → value items a ≡ value items b
-ring_from items a b k x y h e =
-    let whole_sum : value items a +ℤ (value items k *ℤ value items y) ≡ value items b +ℤ (value items k *ℤ value items x) = ring items (a ⊕ k ⊗ y) (b ⊕ k ⊗ x) e in
-    let scaled : value items k *ℤ value items x ≡ value items k *ℤ value items y = ap (λ v. value items k *ℤ v) h in
-    summed (value items a) (value items b) (value items k *ℤ value items x) (value items k *ℤ value items y) whole_sum scaled
+-- ---- from known equations
+-- a multiplier and the two sides of a known equation
+abbrev pub Known : Type 0
+Known = Expression × Expression × Expression
+
+-- each known equation holds
+abbrev pub AllHold : List ℤ → List Known → Type 0
+AllHold items [] = Unit {0}
+AllHold items (s ∷ known) = (value items s.1 ≡ value items s.2) × AllHold items known
+
+-- the known left sides, and the right sides, each times its multiplier, added up
+abbrev pub lefts : List Known → Expression
+lefts [] = number (pos 0)
+lefts (s ∷ known) = s.0 ⊗ s.1 ⊕ lefts known
+
+abbrev pub rights : List Known → Expression
+rights [] = number (pos 0)
+rights (s ∷ known) = s.0 ⊗ s.2 ⊕ rights known
+
+lefts_are_rights : (items : List ℤ) (known : List Known) → AllHold items known → value items (lefts known) ≡ value items (rights known)
+lefts_are_rights items [] h = refl
+lefts_are_rights items (s ∷ known) h =
+    ap₂ (λ x y. (value items s.0 *ℤ x) +ℤ y) h.0 (lefts_are_rights items known h.1)
+
+-- a equals b if known equations, each times a multiplier, make up the difference
+pub ring_from : (items : List ℤ) (a b : Expression) (known : List Known) → AllHold items known
+    → normal (a ⊕ rights known) ≡ normal (b ⊕ lefts known) → value items a ≡ value items b
+ring_from items a b known h e =
+    summed (value items a) (value items b) (value items (lefts known)) (value items (rights known))
+    (ring items (a ⊕ rights known) (b ⊕ lefts known) e) (lefts_are_rights items known h)
   where
   summed : (a b x y : ℤ) → a +ℤ y ≡ b +ℤ x → x ≡ y → a ≡ b
   summed a b x y e h = omega (arith, ints)
-
--- the same from two known equations
-pub ring_from_two : (items : List ℤ) (a b k x y : Expression) → value items x ≡ value items y
-    → (l v w : Expression) → value items v ≡ value items w
-    → normal (a ⊕ (k ⊗ y ⊕ l ⊗ w)) ≡ normal (b ⊕ (k ⊗ x ⊕ l ⊗ v)) → value items a ≡ value items b
-ring_from_two items a b k x y h l v w g e =
-    summed (value items a) (value items b) (value items k *ℤ value items x) (value items k *ℤ value items y)
-    (value items l *ℤ value items v) (value items l *ℤ value items w)
-    (ring items (a ⊕ (k ⊗ y ⊕ l ⊗ w)) (b ⊕ (k ⊗ x ⊕ l ⊗ v)) e)
-    (ap (λ n. value items k *ℤ n) h) (ap (λ n. value items l *ℤ n) g)
-  where
-  summed : (a b x y v w : ℤ) → a +ℤ (y +ℤ w) ≡ b +ℤ (x +ℤ v) → x ≡ y → v ≡ w → a ≡ b
-  summed a b x y v w e h g = omega (arith, ints)
 
 -- a is at most b if a known order x ≤ y makes up the difference
 pub ring_le : (items : List ℤ) (a b x y : Expression)

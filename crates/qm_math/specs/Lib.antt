@@ -3,3 +3,4 @@ pub mod Arithmetic
 pub mod Ranges
 pub mod Sums
 pub mod Totals
+pub mod Combinations
