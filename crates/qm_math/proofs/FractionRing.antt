@@ -6,9 +6,9 @@ use Rattle.qm_math.specs.Arithmetic.{sum_of, negated, product_of}
 use Rattle.qm_math.proofs.Polynomials.{Expression, item, number, ◌⊕◌, ◌⊗◌, minus, pick, value, normal}
 use Rattle.qm_math.proofs.Ring.{ring, Known, AllHold, lefts, rights, ring_from}
 
--- the fraction of a number in a list
+-- the item of a number, and 1 past the end
 abbrev pub pick_fraction : List Fraction → ℕ → Fraction
-pick_fraction [] n = record { num = pos 0; den = 0 }
+pick_fraction [] n = whole (pos 1)
 pick_fraction (x ∷ items) zero = x
 pick_fraction (x ∷ items) (suc n) = pick_fraction items n
 

@@ -8,6 +8,9 @@ pub mod Ring
 pub mod FractionRing
 pub mod FractionLaws
 pub mod FractionOrder
+pub mod FractionLinear
 pub mod Sums
 pub mod Totals
 pub mod Combinations
+pub mod Rows
+pub mod Pivots

@@ -16,9 +16,9 @@ pub data Expression : Type 0 where
 infixl 6 ◌⊕◌
 infixl 7 ◌⊗◌
 
--- the item of a number, and 0 past the end
+-- the item of a number, and 1 past the end
 abbrev pub pick : List ℤ → ℕ → ℤ
-pick [] n = pos 0
+pick [] n = pos 1
 pick (x ∷ items) zero = x
 pick (x ∷ items) (suc n) = pick items n
 

@@ -4,3 +4,4 @@ pub mod Ranges
 pub mod Sums
 pub mod Totals
 pub mod Combinations
+pub mod Pivots
