@@ -9,6 +9,12 @@ use Rattle.qm_math.proofs.Compare.{at_most_trans}
 use Rattle.qm_math.proofs.FractionOrder.{at_most-same, product_of-at_most}
 use Rattle.qm_math.proofs.Totals.{total_of_den, total_of-same, total_of-at_most, product_of-total_of, total_of-product_of, total_of_exchange}
 
+pub value_at_den : {C : Type 0} (columns : List C) (k x : C → Fraction)
+    → All (λ c. 0 < (k c).den) columns → All (λ c. 0 < (x c).den) columns → 0 < (value_at columns k x).den
+value_at_den columns k x hk hx =
+    total_of_den (λ c. product_of (k c) (x c)) columns
+    (λ i d below. product_of_den (k (get_or columns i d)) (x (get_or columns i d)) (hk i d below) (hx i d below))
+
 -- y times a row's value
 scaled_value : {C : Type 0} (y : Fraction) (columns : List C) (k x : C → Fraction)
     → 0 < y.den → All (λ c. 0 < (k c).den) columns → All (λ c. 0 < (x c).den) columns

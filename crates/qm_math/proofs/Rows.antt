@@ -1,14 +1,14 @@
 -- Rows as lists of fractions, and their combinations with lists of values.
 use Rattle.std.proofs.Common.{◌≡◌, ◌∙◌, sym, refl, ap, ℕ, zero, suc, ◌<◌, arith, List, [], ◌∷◌, length, get_or, set, All, pos}
 use Rattle.std.specs.List.{AllZip}
-use Rattle.std.proofs.lemmas.List.Elements.{All-head, All-tail}
+use Rattle.std.proofs.lemmas.List.Elements.{All-nil, All-cons, All-head, All-tail}
 use Rattle.qm_math.specs.Fraction.{Fraction, whole, IsSame, IsAtMost}
 use Rattle.qm_math.specs.Arithmetic.{sum_of, negated, difference_of, product_of}
 use Rattle.qm_math.specs.Totals.{combined, reduced}
 use Rattle.qm_math.proofs.Polynomials.{number, ◌⊕◌, ◌⊗◌, minus}
 use Rattle.qm_math.proofs.Ring.{x0, x1, x2, x3, x4, x5, x6}
 use Rattle.qm_math.proofs.FractionRing.{num_of, den_of, same_by_ring, same_from}
-use Rattle.qm_math.proofs.FractionLaws.{same_refl, whole_den, sum_of_den, product_of_den, sum_of-same, product_of-same}
+use Rattle.qm_math.proofs.FractionLaws.{same_refl, whole_den, sum_of_den, product_of_den, difference_of_den, sum_of-same, product_of-same}
 
 pub combined_den : (ks vs : List Fraction) → All (λ k. 0 < k.den) ks → All (λ v. 0 < v.den) vs → 0 < (combined ks vs).den
 combined_den [] vs hk hv = whole_den (pos 0)
@@ -43,7 +43,16 @@ get_or-reduced (k ∷ ks) f [] c d e g h i = absurd (omega arith)
 get_or-reduced (k ∷ ks) f (o ∷ os) zero d e g h i = refl
 get_or-reduced (k ∷ ks) f (o ∷ os) (suc c) d e g h i = get_or-reduced ks f os c d e g (omega arith) (omega arith)
 
-reduced_step : (k f o v t u n : Fraction) → IsSame n (difference_of t (product_of f u))
+pub reduced_den : (ks : List Fraction) (f : Fraction) (os : List Fraction) → 0 < f.den → All (λ k. 0 < k.den) ks → All (λ o. 0 < o.den) os
+    → All (λ k. 0 < k.den) (reduced ks f os)
+reduced_den [] f os hf hk ho = All-nil (λ k. 0 < k.den)
+reduced_den (k ∷ ks) f [] hf hk ho = hk
+reduced_den (k ∷ ks) f (o ∷ os) hf hk ho =
+    All-cons (λ k. 0 < k.den) (difference_of k (product_of f o)) (reduced ks f os)
+    (difference_of_den k (product_of f o) (All-head (λ x. 0 < x.den) k ks hk) (product_of_den f o hf (All-head (λ x. 0 < x.den) o os ho)))
+    (reduced_den ks f os hf (All-tail (λ x. 0 < x.den) k ks hk) (All-tail (λ x. 0 < x.den) o os ho))
+
+pub reduced_step : (k f o v t u n : Fraction) → IsSame n (difference_of t (product_of f u))
     → IsSame (sum_of (product_of (difference_of k (product_of f o)) v) n)
       (difference_of (sum_of (product_of k v) t) (product_of f (sum_of (product_of o v) u)))
 reduced_step k f o v t u n e =
