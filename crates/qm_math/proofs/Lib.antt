@@ -9,8 +9,12 @@ pub mod FractionRing
 pub mod FractionLaws
 pub mod FractionOrder
 pub mod FractionLinear
+pub mod Rounding
 pub mod Sums
 pub mod Totals
 pub mod Combinations
 pub mod Rows
 pub mod Pivots
+pub mod Ends
+pub mod Refutes
+pub mod Distinct

@@ -1,6 +1,8 @@
 pub mod Fraction
 pub mod Arithmetic
+pub mod Rounding
 pub mod Ranges
+pub mod Ends
 pub mod Sums
 pub mod Totals
 pub mod Combinations
