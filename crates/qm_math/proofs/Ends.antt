@@ -1,12 +1,12 @@
 -- A multiple of a fraction between two ends lies between the least and the greatest multiple of the ends, and so do sums of such.
-use Rattle.std.proofs.Common.{◌≡◌, refl, ℕ, suc, ◌<◌, ◌*◌, arith, List, get_or, All, ℤ, pos, negsuc, ◌*ℤ◌, ◌≤ℤ◌}
+use Rattle.std.proofs.Common.{◌≡◌, refl, arith, List, get_or, All, ℤ, pos, negsuc, ◌*ℤ◌, ◌≤ℤ◌}
 use Rattle.std.proofs.lemmas.Int.{ints}
-use Rattle.qm_math.specs.Fraction.{Fraction, whole, IsAtMost, IsBelow, IsSame}
+use Rattle.qm_math.specs.Fraction.{Fraction, whole, IsAtMost, IsSame}
 use Rattle.qm_math.specs.Arithmetic.{product_of}
 use Rattle.qm_math.specs.Ranges.{IsBetween, least_product, greatest_product}
 use Rattle.qm_math.specs.Sums.{sum_of_each}
 use Rattle.qm_math.specs.Totals.{total_of}
-use Rattle.qm_math.specs.Combinations.{value_at, combined_at}
+use Rattle.qm_math.specs.Combinations.{value_at}
 use Rattle.qm_math.specs.Ends.{IsWithin, by_sign, least_multiple, greatest_multiple}
 use Rattle.qm_math.proofs.Between.{least_product_le, le_greatest_product}
 use Rattle.qm_math.proofs.FractionLaws.{product_of-whole}

@@ -4,7 +4,7 @@
 -- `at_most_given` and `below_given` also take known orders, the lesser side first.
 use Rattle.std.proofs.Common.{◌≡◌, refl, sym, ℕ, zero, suc, ◌<◌, arith, List, [], ◌∷◌, pos}
 use Rattle.qm_math.specs.Fraction.{Fraction, whole, IsSame, IsAtMost, IsBelow}
-use Rattle.qm_math.specs.Arithmetic.{sum_of, negated, product_of}
+use Rattle.qm_math.specs.Arithmetic.{sum_of, product_of}
 use Rattle.qm_math.proofs.Polynomials.{Expression, item, number, ◌⊕◌, ◌⊗◌, minus, normal}
 use Rattle.qm_math.proofs.Ring.{Known, lefts, rights}
 use Rattle.qm_math.proofs.FractionRing.{fraction_value, pick_fraction, num_of, den_of, same_by_ring, AllSame}
@@ -52,7 +52,7 @@ lefts_same items (s ∷ known) h =
     sum_of-same (product_of (fraction_value items s.0) (fraction_value items s.1)) (fraction_value items (lefts known))
     (product_of (fraction_value items s.0) (fraction_value items s.2)) (fraction_value items (rights known))
     (product_of-same (fraction_value items s.0) (fraction_value items s.1) (fraction_value items s.0) (fraction_value items s.2)
-      (same_refl (fraction_value items s.0)) h.0)
+    (same_refl (fraction_value items s.0)) h.0)
     (lefts_same items known h.1)
 
 lessers_at_most : (items : List Fraction) (orders : List Order) → AllAtMost items orders → IsAtMost (fraction_value items (lessers orders)) (fraction_value items (greaters orders))
@@ -75,29 +75,29 @@ same_given items a b known positive h e =
 
 pub at_most_given : (items : List Fraction) (a b : Expression) (known : List Known) (orders : List Order) → AllPositive items → AllSame items known → AllAtMost items orders
     → normal (num_of (b ⊕ (lefts known ⊕ lessers orders)) ⊗ den_of (a ⊕ (rights known ⊕ greaters orders)))
-      ≡ normal (num_of (a ⊕ (rights known ⊕ greaters orders)) ⊗ den_of (b ⊕ (lefts known ⊕ lessers orders)))
+    ≡ normal (num_of (a ⊕ (rights known ⊕ greaters orders)) ⊗ den_of (b ⊕ (lefts known ⊕ lessers orders)))
     → IsAtMost (fraction_value items a) (fraction_value items b)
 at_most_given items a b known orders positive h o e =
     at_most_by (fraction_value items a) (fraction_value items b)
     (fraction_value items (lefts known ⊕ lessers orders)) (fraction_value items (rights known ⊕ greaters orders))
     (fraction_value_den items (lefts known ⊕ lessers orders) positive) (fraction_value_den items (rights known ⊕ greaters orders) positive)
     (sum_of-at_most (fraction_value items (lefts known)) (fraction_value items (lessers orders)) (fraction_value items (rights known)) (fraction_value items (greaters orders))
-      (at_most-same (fraction_value items (lefts known)) (fraction_value items (rights known)) (lefts_same items known h)) (lessers_at_most items orders o))
+    (at_most-same (fraction_value items (lefts known)) (fraction_value items (rights known)) (lefts_same items known h)) (lessers_at_most items orders o))
     (same_by_ring items (b ⊕ (lefts known ⊕ lessers orders)) (a ⊕ (rights known ⊕ greaters orders)) e)
 
 -- x below y is the one order known to be strict
 pub below_given : (items : List Fraction) (a b x y : Expression) (known : List Known) (orders : List Order) → AllPositive items
     → IsBelow (fraction_value items x) (fraction_value items y) → AllSame items known → AllAtMost items orders
     → normal (num_of (b ⊕ (x ⊕ (lefts known ⊕ lessers orders))) ⊗ den_of (a ⊕ (y ⊕ (rights known ⊕ greaters orders))))
-      ≡ normal (num_of (a ⊕ (y ⊕ (rights known ⊕ greaters orders))) ⊗ den_of (b ⊕ (x ⊕ (lefts known ⊕ lessers orders))))
+    ≡ normal (num_of (a ⊕ (y ⊕ (rights known ⊕ greaters orders))) ⊗ den_of (b ⊕ (x ⊕ (lefts known ⊕ lessers orders))))
     → IsBelow (fraction_value items a) (fraction_value items b)
 below_given items a b x y known orders positive strict h o e =
     below_by (fraction_value items a) (fraction_value items b)
     (fraction_value items (x ⊕ (lefts known ⊕ lessers orders))) (fraction_value items (y ⊕ (rights known ⊕ greaters orders)))
     (fraction_value_den items a positive) (fraction_value_den items b positive)
     (sum_of-below (fraction_value items x) (fraction_value items (lefts known ⊕ lessers orders)) (fraction_value items y) (fraction_value items (rights known ⊕ greaters orders))
-      (fraction_value_den items (lefts known ⊕ lessers orders) positive) (fraction_value_den items (rights known ⊕ greaters orders) positive)
-      strict
-      (sum_of-at_most (fraction_value items (lefts known)) (fraction_value items (lessers orders)) (fraction_value items (rights known)) (fraction_value items (greaters orders))
-        (at_most-same (fraction_value items (lefts known)) (fraction_value items (rights known)) (lefts_same items known h)) (lessers_at_most items orders o)))
+    (fraction_value_den items (lefts known ⊕ lessers orders) positive) (fraction_value_den items (rights known ⊕ greaters orders) positive)
+    strict
+    (sum_of-at_most (fraction_value items (lefts known)) (fraction_value items (lessers orders)) (fraction_value items (rights known)) (fraction_value items (greaters orders))
+    (at_most-same (fraction_value items (lefts known)) (fraction_value items (rights known)) (lefts_same items known h)) (lessers_at_most items orders o)))
     (same_by_ring items (b ⊕ (x ⊕ (lefts known ⊕ lessers orders))) (a ⊕ (y ⊕ (rights known ⊕ greaters orders))) e)

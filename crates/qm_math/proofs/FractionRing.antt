@@ -1,6 +1,6 @@
 -- Equations of fractions, proved by computing normal forms of both sides multiplied out.
 -- `same_by_ring items a b refl` proves an equation of a ring: the items are the fractions that the expressions name as x0, x1 and so on.
-use Rattle.std.proofs.Common.{◌≡◌, ◌∙◌, sym, refl, ap, ap₂, subst, ℕ, zero, suc, ◌+◌, List, [], ◌∷◌, arith, ℤ, pos, negsuc, ◌+ℤ◌, ◌*ℤ◌, neg_ℤ}
+use Rattle.std.proofs.Common.{◌≡◌, ◌∙◌, sym, refl, ap, ap₂, ℕ, zero, suc, ◌+◌, List, [], ◌∷◌, arith, ℤ, pos, ◌+ℤ◌, ◌*ℤ◌, neg_ℤ}
 use Rattle.qm_math.specs.Fraction.{Fraction, whole, IsSame}
 use Rattle.qm_math.specs.Arithmetic.{sum_of, negated, product_of}
 use Rattle.qm_math.proofs.Polynomials.{Expression, item, number, ◌⊕◌, ◌⊗◌, minus, pick, value, normal}

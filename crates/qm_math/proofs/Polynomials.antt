@@ -15,7 +15,6 @@ pub data Expression : Type 0 where
 
 infixl 6 ◌⊕◌
 infixl 7 ◌⊗◌
-
 -- the item of a number, and 1 past the end
 abbrev pub pick : List ℤ → ℕ → ℤ
 pick [] n = pos 1
@@ -215,4 +214,3 @@ normal_value items (a ⊕ b) =
 normal_value items (a ⊗ b) =
     multiply_value items (normal a) (normal b) ∙ ap₂ (λ x y. x *ℤ y) (normal_value items a) (normal_value items b)
 normal_value items (minus a) = negative_value items (normal a) ∙ ap neg_ℤ (normal_value items a)
-

@@ -69,8 +69,8 @@ ring_from items a b known h e =
     summed (value items a) (value items b) (value items (lefts known)) (value items (rights known))
     (ring items (a ⊕ rights known) (b ⊕ lefts known) e) (lefts_are_rights items known h)
   where
-  summed : (a b x y : ℤ) → a +ℤ y ≡ b +ℤ x → x ≡ y → a ≡ b
-  summed a b x y e h = omega (arith, ints)
+    summed : (a b x y : ℤ) → a +ℤ y ≡ b +ℤ x → x ≡ y → a ≡ b
+    summed a b x y e h = omega (arith, ints)
 
 -- a is at most b if a known order x ≤ y makes up the difference
 pub ring_le : (items : List ℤ) (a b x y : Expression)
@@ -78,13 +78,13 @@ pub ring_le : (items : List ℤ) (a b x y : Expression)
 ring_le items a b x y h e =
     summed (value items a) (value items b) (value items x) (value items y) (ring items (b ⊕ x) (a ⊕ y) e) h
   where
-  summed : (a b x y : ℤ) → b +ℤ x ≡ a +ℤ y → x ≤ℤ y → a ≤ℤ b
-  summed a b x y e h = omega (arith, ints)
+    summed : (a b x y : ℤ) → b +ℤ x ≡ a +ℤ y → x ≤ℤ y → a ≤ℤ b
+    summed a b x y e h = omega (arith, ints)
 
 pub ring_lt : (items : List ℤ) (a b x y : Expression)
     → value items x <ℤ value items y → normal (b ⊕ x) ≡ normal (a ⊕ y) → value items a <ℤ value items b
 ring_lt items a b x y h e =
     summed (value items a) (value items b) (value items x) (value items y) (ring items (b ⊕ x) (a ⊕ y) e) h
   where
-  summed : (a b x y : ℤ) → b +ℤ x ≡ a +ℤ y → x <ℤ y → a <ℤ b
-  summed a b x y e h = omega (arith, ints)
+    summed : (a b x y : ℤ) → b +ℤ x ≡ a +ℤ y → x <ℤ y → a <ℤ b
+    summed a b x y e h = omega (arith, ints)

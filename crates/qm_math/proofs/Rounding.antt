@@ -1,14 +1,13 @@
 -- Each fraction has one floor and one ceiling.
-use Rattle.std.proofs.Common.{◌≡◌, ◌∙◌, sym, refl, ap, subst, ℕ, suc, ◌+◌, ◌*◌, ◌/◌, ◌<◌, ◌≤◌, ◌↔◌, arith, [], ◌∷◌, ℤ, pos, negsuc, ◌+ℤ◌, ◌-ℤ◌, ◌*ℤ◌, neg_ℤ, ◌≤ℤ◌, ◌<ℤ◌}
+use Rattle.std.proofs.Common.{◌≡◌, ◌∙◌, sym, refl, ap, subst, ℕ, ◌+◌, ◌*◌, ◌/◌, ◌<◌, ◌≤◌, ◌↔◌, arith, [], ◌∷◌, ℤ, pos, negsuc, ◌+ℤ◌, ◌-ℤ◌, ◌*ℤ◌, neg_ℤ, ◌≤ℤ◌, ◌<ℤ◌}
 use Rattle.std.proofs.lemmas.Int.{ints}
-use Rattle.qm_math.specs.Fraction.{Fraction, whole, IsAtMost, IsBelow, IsSame}
+use Rattle.qm_math.specs.Fraction.{Fraction, whole, IsAtMost, IsBelow}
 use Rattle.qm_math.specs.Arithmetic.{negated}
 use Rattle.qm_math.specs.Rounding.{IsFloor, IsCeil, quotient_down, floor_of, ceil_of}
 use Rattle.qm_math.proofs.Whole.{add-*ℤ}
 use Rattle.qm_math.proofs.Polynomials.{number, ◌⊕◌, ◌⊗◌, minus}
 use Rattle.qm_math.proofs.Ring.{x0, x1, x2, ring_le, ring_lt}
 use Rattle.qm_math.proofs.Compare.{at_most_trans, at_most_below, below_at_most}
-use Rattle.qm_math.proofs.FractionOrder.{negated-at_most, negated-below}
 use Rattle.qm_math.proofs.FractionLaws.{whole_den, negated_den}
 
 -- ---- there is one
@@ -31,16 +30,18 @@ one_more z d = add-*ℤ z (pos 1) (pos d) ∙ ap (λ k. (z *ℤ pos d) +ℤ k) (
 
 pub floor_of-IsFloor : (a : Fraction) → 0 < a.den → IsFloor (floor_of a) a
 unfolding floor_of
-floor_of-IsFloor a h =
-    (quotient_down_low a.num a.den h,
-      subst (λ k. (a.num *ℤ pos 1) <ℤ k) (sym (one_more (quotient_down a.num a.den) a.den)) (quotient_down_next a.num a.den h))
+floor_of-IsFloor a h = (
+  quotient_down_low a.num a.den h,
+  subst (λ k. (a.num *ℤ pos 1) <ℤ k) (sym (one_more (quotient_down a.num a.den) a.den)) (quotient_down_next a.num a.den h),
+)
 
 -- ---- it is the greatest
 pub IsFloor-greatest : (n : ℤ) (a : Fraction) (k : ℤ) → IsFloor n a → IsAtMost (whole k) a ↔ (k ≤ℤ n)
-IsFloor-greatest n a k floor =
-    (λ h. (let below : IsBelow (whole k) (whole (n +ℤ pos 1)) = at_most_below (whole k) a (whole (n +ℤ pos 1)) (whole_den k) h floor.1 in
+IsFloor-greatest n a k floor = (
+  λ h. (let below : IsBelow (whole k) (whole (n +ℤ pos 1)) = at_most_below (whole k) a (whole (n +ℤ pos 1)) (whole_den k) h floor.1 in
       omega (arith, ints, below)),
-    λ h. at_most_trans (whole k) (whole n) a (whole_den n) (omega (arith, ints, h)) floor.0)
+  λ h. at_most_trans (whole k) (whole n) a (whole_den n) (omega (arith, ints, h)) floor.0,
+)
 
 pub IsFloor-one : (m n : ℤ) (a : Fraction) → IsFloor m a → IsFloor n a → m ≡ n
 IsFloor-one m n a h k =
@@ -50,10 +51,11 @@ IsFloor-one m n a h k =
 
 -- ---- the same turned round
 pub IsCeil-least : (n : ℤ) (a : Fraction) (k : ℤ) → IsCeil n a → IsAtMost a (whole k) ↔ (n ≤ℤ k)
-IsCeil-least n a k ceil =
-    (λ h. (let below : IsBelow (whole (n -ℤ pos 1)) (whole k) = below_at_most (whole (n -ℤ pos 1)) a (whole k) (whole_den k) ceil.1 h in
+IsCeil-least n a k ceil = (
+  λ h. (let below : IsBelow (whole (n -ℤ pos 1)) (whole k) = below_at_most (whole (n -ℤ pos 1)) a (whole k) (whole_den k) ceil.1 h in
       omega (arith, ints, below)),
-    λ h. at_most_trans a (whole n) (whole k) (whole_den n) ceil.0 (omega (arith, ints, h)))
+  λ h. at_most_trans a (whole n) (whole k) (whole_den n) ceil.0 (omega (arith, ints, h)),
+)
 
 pub IsCeil-one : (m n : ℤ) (a : Fraction) → IsCeil m a → IsCeil n a → m ≡ n
 IsCeil-one m n a h k =
@@ -64,10 +66,11 @@ IsCeil-one m n a h k =
 -- the negative of a floor is the ceiling of the negative
 pub IsCeil-negated : (n : ℤ) (a : Fraction) → IsFloor n (negated a) → IsCeil (neg_ℤ n) a
 unfolding negated
-IsCeil-negated n a floor =
-    (ring_le (n ∷ a.num ∷ pos a.den ∷ []) (x1 ⊗ number (pos 1)) (minus x0 ⊗ x2) (x0 ⊗ x2) (minus x1 ⊗ number (pos 1)) floor.0 refl,
-      ring_lt (n ∷ a.num ∷ pos a.den ∷ []) ((minus x0 ⊕ number (negsuc 0)) ⊗ x2) (x1 ⊗ number (pos 1))
-        (minus x1 ⊗ number (pos 1)) ((x0 ⊕ number (pos 1)) ⊗ x2) floor.1 refl)
+IsCeil-negated n a floor = (
+  ring_le (n ∷ a.num ∷ pos a.den ∷ []) (x1 ⊗ number (pos 1)) (minus x0 ⊗ x2) (x0 ⊗ x2) (minus x1 ⊗ number (pos 1)) floor.0 refl,
+  ring_lt (n ∷ a.num ∷ pos a.den ∷ []) ((minus x0 ⊕ number (negsuc 0)) ⊗ x2) (x1 ⊗ number (pos 1))
+      (minus x1 ⊗ number (pos 1)) ((x0 ⊕ number (pos 1)) ⊗ x2) floor.1 refl,
+)
 
 pub ceil_of-IsCeil : (a : Fraction) → 0 < a.den → IsCeil (ceil_of a) a
 ceil_of-IsCeil a h = IsCeil-negated (floor_of (negated a)) a (floor_of-IsFloor (negated a) (negated_den a h))

@@ -1,15 +1,14 @@
 -- Sums of fractions over lists.
-use Rattle.std.proofs.Common.{◌≡◌, ◌∙◌, sym, refl, ap, ap₂, ℕ, suc, ◌<◌, arith, List, [], ◌∷◌, ◌++◌, map, get_or, All, ℤ, pos, negsuc, ◌+ℤ◌, ◌*ℤ◌}
+use Rattle.std.proofs.Common.{◌≡◌, refl, ap, ◌<◌, List, [], ◌∷◌, ◌++◌, map, get_or, All, ℤ, pos, ◌+ℤ◌}
 use Rattle.std.proofs.lemmas.List.Elements.{All-head, All-tail}
-use Rattle.std.proofs.lemmas.Int.{ints}
-use Rattle.qm_math.specs.Fraction.{Fraction, whole, IsSame, IsAtMost, IsBelow}
-use Rattle.qm_math.specs.Arithmetic.{sum_of, negated, difference_of, product_of}
+use Rattle.qm_math.specs.Fraction.{Fraction, whole, IsSame, IsAtMost}
+use Rattle.qm_math.specs.Arithmetic.{sum_of, negated, product_of}
 use Rattle.qm_math.specs.Sums.{sum_of_each}
 use Rattle.qm_math.specs.Totals.{total_of}
 use Rattle.qm_math.proofs.Polynomials.{number, ◌⊕◌, ◌⊗◌, minus}
 use Rattle.qm_math.proofs.Ring.{x0, x1, x2, x3, x4}
 use Rattle.qm_math.proofs.FractionRing.{den_of, same_from}
-use Rattle.qm_math.proofs.FractionLaws.{same_refl, same_sym, same_trans, sum_of-same, sum_of_den, product_of_den, product_of_comm, product_of-zero, negated-same, zero-sum_of, sum_of-whole, whole_den}
+use Rattle.qm_math.proofs.FractionLaws.{same_refl, same_sym, same_trans, sum_of-same, sum_of_den, product_of_den, product_of_comm, product_of-zero, zero-sum_of, sum_of-whole, whole_den}
 use Rattle.qm_math.proofs.FractionOrder.{at_most_refl, sum_of-at_most}
 
 -- ---- one step of a sum, from what is known of the rest; none of these asks anything of the denominators
@@ -90,9 +89,9 @@ total_of-product_of k f xs hk h =
     (product_of_den k (total_of f xs) hk (total_of_den f xs h))
     (product_of_comm (total_of f xs) k)
     (same_trans (product_of k (total_of f xs)) turned (total_of (λ x. product_of (f x) k) xs)
-      (total_of_den (λ x. product_of k (f x)) xs (λ i d below. product_of_den k (f (get_or xs i d)) hk (h i d below)))
-      (product_of-total_of k f xs)
-      (total_of-same (λ x. product_of k (f x)) (λ x. product_of (f x) k) xs (λ i d below. product_of_comm k (f (get_or xs i d)))))
+    (total_of_den (λ x. product_of k (f x)) xs (λ i d below. product_of_den k (f (get_or xs i d)) hk (h i d below)))
+    (product_of-total_of k f xs)
+    (total_of-same (λ x. product_of k (f x)) (λ x. product_of (f x) k) xs (λ i d below. product_of_comm k (f (get_or xs i d)))))
 
 -- a sum of whole numbers among the fractions
 pub total_of-whole : {A : Type 0} (f : A → ℤ) (xs : List A) → IsSame (total_of (λ x. whole (f x)) xs) (whole (sum_of_each f xs))
@@ -115,9 +114,9 @@ total_of_exchange f (x ∷ xs) ys h =
     let later : All (λ z. All (λ y. 0 < (f z y).den) ys) xs = All-tail (λ z. All (λ y. 0 < (f z y).den) ys) x xs h in
     let first_den = total_of_den (f x) ys (All-head (λ z. All (λ y. 0 < (f z y).den) ys) x xs h) in
     let turned_den = total_of_den (λ y. total_of (λ z. f z y) xs) ys
-      (λ k d below. total_of_den (λ z. f z (get_or ys k d)) xs (λ j e low. later j e low k d below)) in
+    (λ k d below. total_of_den (λ z. f z (get_or ys k d)) xs (λ j e low. later j e low k d below)) in
     same_trans (sum_of first rest) (sum_of first turned) (total_of (λ y. sum_of (f x y) (total_of (λ z. f z y) xs)) ys)
     (sum_of_den first turned first_den turned_den)
     (sum_of-same first rest first turned (same_refl first) (total_of_exchange f xs ys later))
     (same_sym (total_of (λ y. sum_of (f x y) (total_of (λ z. f z y) xs)) ys) (sum_of first turned)
-      (total_of-sum_of (f x) (λ y. total_of (λ z. f z y) xs) ys))
+    (total_of-sum_of (f x) (λ y. total_of (λ z. f z y) xs) ys))

@@ -8,6 +8,6 @@ use Rattle.qm_math.specs.Totals.{total_of}
 abbrev pub value_at : {C : Type 0} → List C → (C → Fraction) → (C → Fraction) → Fraction
 value_at columns k x = total_of (λ c. product_of (k c) (x c)) columns
 
--- the combined row's number in a column: each row's number there times the row's y, added up
-abbrev pub combined_at : {R C : Type 0} → List R → (R → Fraction) → (R → C → Fraction) → C → Fraction
-combined_at rows y a c = total_of (λ r. product_of (y r) (a r c)) rows
+-- the combined row: in each column the numbers of the rows there, each times the row's y, added up
+abbrev pub combined_row : {R C : Type 0} → List R → (R → Fraction) → (R → C → Fraction) → C → Fraction
+combined_row rows y a c = total_of (λ r. product_of (y r) (a r c)) rows

@@ -2,16 +2,16 @@
 use Rattle.std.specs.Prelude.{ℕ, List, slice_set}
 use Rattle.qm_math.specs.Fraction.{Fraction}
 use Rattle.qm_math.specs.Arithmetic.{sum_of, difference_of, product_of}
-use Rattle.qm_math.specs.Totals.{combined, reduced}
+use Rattle.qm_math.specs.Totals.{sum_of_products, reduced_row}
 
 -- constant + the numbers of the row times the values of the unknowns
 abbrev pub row_value : Fraction → List Fraction → List Fraction → Fraction
-row_value constant ks values = sum_of constant (combined ks values)
+row_value constant ks values = sum_of constant (sum_of_products ks values)
 
 -- The row once the unknown in column c gave its place to the quantity of the pivot row: factor times the
 -- pivot row is taken away, and the column has the factor.
-abbrev pub pivoted : List Fraction → Fraction → List Fraction → ℕ → List Fraction
-pivoted ks factor others c = slice_set (reduced ks factor others) c factor
+abbrev pub pivoted_row : List Fraction → Fraction → List Fraction → ℕ → List Fraction
+pivoted_row ks factor others c = slice_set (reduced_row ks factor others) c factor
 
 -- its constant
 abbrev pub pivoted_constant : Fraction → Fraction → Fraction → Fraction
