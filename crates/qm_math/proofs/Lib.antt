@@ -10,6 +10,8 @@ pub mod FractionLaws
 pub mod FractionOrder
 pub mod FractionLinear
 pub mod Rounding
+pub mod Quotients
+pub mod Over
 pub mod Sums
 pub mod Totals
 pub mod Combinations

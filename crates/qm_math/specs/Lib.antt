@@ -4,6 +4,7 @@ pub mod Rounding
 pub mod Ranges
 pub mod Ends
 pub mod Sums
+pub mod Over
 pub mod Totals
 pub mod Combinations
 pub mod Pivots
