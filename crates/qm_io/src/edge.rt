@@ -1,11 +1,25 @@
 // The system's streams and files, the trusted edge: what they give and take no contract tells.
-ghost use Rattle.std.specs.Prelude.{◌≡◌, None};
+ghost use Rattle.std.specs.Prelude.{◌≡◌, None, IfSome, IfNone, IsErr};
 ghost use Rattle.std.specs.Io.{ReadsAtMost};
+ghost use Rattle.qm_io.specs.Causes.{HasCause, next_count};
 
 use crate::{Failed, Sink, Source};
 use std::fs::File;
 use std::io::{self, Read, Write};
 use std::rt::Files;
+
+// What the system gave or took, with its failure counted.
+fn count_failure(answer: Option<usize>, faults: &mut u64) -> Result<usize, Failed>
+    ensures some { IfSome answer (λ n. (result ≡ Ok n) × (faults.new ≡ faults.old)) }
+    ensures none { IfNone answer (IsErr result × (faults.new ≡ next_count faults.old)) }
+    ensures cause { HasCause faults.old faults.new result }
+{
+    let Some(n) = answer else {
+        *faults = faults.saturating_add(1);
+        return Err(Failed);
+    };
+    Ok(n)
+}
 
 /// Standard input. A failed read is a fault.
 #[derive(Drop)]
@@ -32,13 +46,7 @@ impl<R: Input> Source for StdSource<R> {
     ghost faults = { λ s. s.faults };
 
     fn read(&mut self, buf: &mut [u8]) -> Result<usize, Failed> {
-        match self.reader.read(buf) {
-            Ok(n) => Ok(n),
-            Err(_) => {
-                self.faults = self.faults.saturating_add(1);
-                Err(Failed)
-            }
-        }
+        count_failure(self.reader.read(buf).ok(), &mut self.faults)
     }
 }
 
@@ -64,13 +72,11 @@ impl<R: Print> Sink for StdSink<'_, R> {
     ghost faults = { λ s. s.faults };
 
     fn write(&mut self, buf: &[u8]) -> Result<usize, Failed> {
-        match io::writer(self.rt).write(buf) {
-            Ok(n) if n > 0 || buf.is_empty() => Ok(n),
-            _ => {
-                self.faults = self.faults.saturating_add(1);
-                Err(Failed)
-            }
-        }
+        let taken = match io::writer(self.rt).write(buf) {
+            Ok(n) if n > 0 || buf.is_empty() => Some(n),
+            _ => None,
+        };
+        count_failure(taken, &mut self.faults)
     }
 }
 
@@ -124,12 +130,6 @@ impl<R: Files> Source for FileSource<'_, R> {
     ghost faults = { λ s. s.faults };
 
     fn read(&mut self, buf: &mut [u8]) -> Result<usize, Failed> {
-        match self.read_on(buf) {
-            Ok(n) => Ok(n),
-            Err(_) => {
-                self.faults = self.faults.saturating_add(1);
-                Err(Failed)
-            }
-        }
+        count_failure(self.read_on(buf).ok(), &mut self.faults)
     }
 }

@@ -1,4 +1,4 @@
-ghost use Rattle.std.specs.Prelude.{◌≡◌, ◌↔◌, [], ◌∷◌, ◌++◌, ◌<◌, length, take, slice_set, IsTrue, MatchOption, OnOk, OnErr};
+ghost use Rattle.std.specs.Prelude.{◌≡◌, ◌↔◌, [], ◌∷◌, ◌++◌, ◌<◌, length, take, slice_set, IsTrue, IsNone, IfSome, IfNone, OnOk, OnErr};
 ghost use Rattle.std.specs.Cmp.Lexicographic.{pointwise, lists_per, lists_equiv};
 ghost use Rattle.std.specs.Hash as fed;
 ghost use Rattle.std.specs.Hash.{items_Alike};
@@ -41,7 +41,7 @@ impl<T> Model for List<T> {
 }
 
 impl<T> List<T> {
-    /// No items, in no memory.
+    /// An empty list, which takes no memory yet.
     pub fn new(alloc: Global) -> List<T>
         ensures { result ≡ [] }
     {
@@ -73,7 +73,9 @@ impl<T> List<T> {
 
     /// Takes the last item off; `None` where there is none.
     pub fn pop(&mut self) -> Option<T>
-        ensures { MatchOption result ((self.old ≡ []) × (self.new ≡ [])) (λ last. self.old ≡ self.new ++ last ∷ []) }
+        ensures none { IsNone result ↔ (self.old ≡ []) }
+        ensures some { IfSome result (λ last. self.old ≡ self.new ++ last ∷ []) }
+        ensures empty { IfNone result (self.new ≡ []) }
     {
         self.items.pop()
     }

@@ -34,7 +34,8 @@ impl MemorySource {
     /// Gives these bytes, at most `piece` a call, and fails at the calls with these numbers, from 1.
     pub fn new(bytes: List<u8>, piece: usize, failing: List<u64>) -> Self
         requires { 0 < piece }
-        ensures { result ≡ record { rest = bytes; piece = piece; calls = record { failing = failing; made = 0; failed = 0 } } }
+        ensures bytes { (result.rest ≡ bytes) × (result.piece ≡ piece) }
+        ensures calls { result.calls ≡ record { failing = failing; made = 0; failed = 0 } }
     {
         MemorySource {
             bytes,
@@ -99,7 +100,8 @@ impl MemorySink {
     /// Takes at most `piece` bytes a call, and fails at the calls with these numbers, from 1.
     pub fn new(alloc: Global, piece: usize, failing: List<u64>) -> Self
         requires { 0 < piece }
-        ensures { result ≡ record { taken = []; piece = piece; calls = record { failing = failing; made = 0; failed = 0 } } }
+        ensures bytes { (result.taken ≡ []) × (result.piece ≡ piece) }
+        ensures calls { result.calls ≡ record { failing = failing; made = 0; failed = 0 } }
     {
         MemorySink {
             bytes: List::new(alloc),
