@@ -1,0 +1,4 @@
+pub mod Standing
+pub mod Fitting
+pub mod Totals
+pub mod Nonzero

@@ -1,0 +1,9 @@
+//! Small texts: their words, what these say, and the game that they state.
+#![tactic(auto)]
+
+mod coefficients;
+mod names;
+mod naming;
+mod written;
+
+pub use written::{Written, WrittenRow, WrittenTerm};
