@@ -41,7 +41,7 @@ nonzero_ordered [] n least le = tt
 nonzero_ordered (k ∷ ks) n least le =
     let P = λ (b : Bool). (int_eq k (pos 0) ≡ b) → IsOrderedFrom least (in_front n (suc n) k ks b) in
     elim (int_eq k (pos 0)) as P [
-      true ↦ λ e. nonzero_ordered ks (suc n) least (omega arith)
+      | true ↦ λ e. nonzero_ordered ks (suc n) least (omega arith)
       | false ↦ λ e. (omega arith, λ same. false≢true (sym e ∙ (Decides-int_eq k (pos 0)).1 same), nonzero_ordered ks (suc n) (suc n) (omega arith))
     ] refl
 
@@ -51,7 +51,7 @@ nonzero_below [] n bound le = All-nil (λ (t : Term). t.var < bound)
 nonzero_below (k ∷ ks) n bound le =
     let rest = nonzero_below ks (suc n) bound (omega arith) in
     elim (int_eq k (pos 0)) as (λ b. HasVarsBelow bound (in_front n (suc n) k ks b)) [
-      true ↦ rest
+      | true ↦ rest
       | false ↦ All-cons (λ (t : Term). t.var < bound) (record { var = n; coef = k }) (nonzero_from (suc n) ks) (omega arith) rest
     ]
 
@@ -64,7 +64,7 @@ nonzero_size reach_of (k ∷ ks) n most one small =
     let passed : terms_size reach_of (nonzero_from (suc n) ks) ≤ suc (length ks) * most = omega arith in
     let put : unsigned_abs k * reach_of n + terms_size reach_of (nonzero_from (suc n) ks) ≤ suc (length ks) * most = omega (arith, ap (λ reach. unsigned_abs k * reach) (one n)) in
     elim (int_eq k (pos 0)) as (λ b. terms_size reach_of (in_front n (suc n) k ks b) ≤ length (k ∷ ks) * most) [
-      true ↦ passed
+      | true ↦ passed
       | false ↦ rw (sum_by-cons (λ (t : Term). unsigned_abs t.coef * reach_of t.var) (record { var = n; coef = k }) (nonzero_from (suc n) ks)) put
     ]
 

@@ -58,8 +58,8 @@ totals-push order terms term number distinct at =
     let sum = get_or (map (total terms) order) number (pos 0) +ℤ signed_factor term in
     let lengths : length (set (map (total terms) order) number sum) ≡ length (map (total (terms ++ term ∷ [])) order) = length-set (map (total terms) order) number sum ∙ length-map order (total terms) ∙ sym (length-map order (total (terms ++ term ∷ []))) in
     same_lists _ _ lengths (λ k d inside.
-      let below : k < length order = omega (arith, inside, length-set (map (total terms) order) number sum, length-map order (total terms)) in
-      ⊎_elim (λ (here : k ≡ number). subst (λ n. get_or (set (map (total terms) order) number sum) n d ≡ get_or (map (total (terms ++ term ∷ [])) order) n d) (sym here) (same_at order terms term number at d)) (λ (other : k ≢ number). other_at order terms term number k sum d distinct at below other) (cases_eq k number))
+    let below : k < length order = omega (arith, inside, length-set (map (total terms) order) number sum, length-map order (total terms)) in
+    ⊎_elim (λ (here : k ≡ number). subst (λ n. get_or (set (map (total terms) order) number sum) n d ≡ get_or (map (total (terms ++ term ∷ [])) order) n d) (sym here) (same_at order terms term number at d)) (λ (other : k ≢ number). other_at order terms term number k sum d distinct at below other) (cases_eq k number))
 
 -- one turn of the loop over the terms
 pub totals_more : (order : List (List ℕ)) (terms : List WrittenTerm) (term : WrittenTerm) (i number : ℕ) (old new : List ℤ) → AreDistinct order → i < length terms → term ≡ get_or terms i term → slice_get order number ≡ Some term.name → old ≡ map (total (take i terms)) order → new ≡ set old number (get_or old number (pos 0) +ℤ signed_factor term) → new ≡ map (total (take (i + 1) terms)) order
@@ -89,7 +89,7 @@ sum_small (term ∷ terms) name start small =
     let with = sum_small terms name (start +ℤ signed_factor term) rest in
     let without = sum_small terms name start rest in
     elim (bytes_eq term.name name) as (λ b. unsigned_abs (fold ◌+ℤ◌ start (map signed_factor (cond b (term ∷ filter (λ (t : WrittenTerm). bytes_eq t.name name) terms) (filter (λ (t : WrittenTerm). bytes_eq t.name name) terms)))) ≤ unsigned_abs start + length (term ∷ terms) * 2 ^ 32) [
-      true ↦ omega arith
+      | true ↦ omega arith
       | false ↦ omega arith
     ]
 

@@ -4,6 +4,7 @@
 mod coefficients;
 mod names;
 mod naming;
+mod problem;
 mod written;
 
 pub use written::{Written, WrittenRow, WrittenTerm};

@@ -15,14 +15,14 @@ loop-var-preserved c =
     let k = get_or ks i (pos 0) in
     let is : k ≡ get_or ks i k = get_or_default ks i (pos 0) k c.loop-var-test.true in
     elim c.if-coef-ne0.branch [
-      then-coef-ne0+in_ok-push w ↦
-        let other : k ≢ pos 0 = λ e. w.if-coef-ne0.true (omega (arith, ints, e)) in
-        let fits : cast_signed w128 (cast_unsigned w128 k) ≡ k = omega (arith, ints) in
-        let pushed = rw fits at w.in_ok-push.ensures.ok in
-        rw w.items-is (nonzero_other ks i k c.loop-var.items.items w.push.new.self.items (nonzero_from 0 ks) c.loop-var-test.true is other pushed c.loop-var.invariant)
+      | then-coef-ne0+in_ok-push w ↦
+          let other : k ≢ pos 0 = λ e. w.if-coef-ne0.true (omega (arith, ints, e)) in
+          let fits : cast_signed w128 (cast_unsigned w128 k) ≡ k = omega (arith, ints) in
+          let pushed = rw fits at w.in_ok-push.ensures.ok in
+          rw w.items-is (nonzero_other ks i k c.loop-var.items.items w.push.new.self.items (nonzero_from 0 ks) c.loop-var-test.true is other pushed c.loop-var.invariant)
       | else-coef-ne0 w ↦
-        let is_zero : k ≡ pos 0 = omega (arith, ints) in
-        rw w.items-is (nonzero_zero ks i k c.loop-var.items.items (nonzero_from 0 ks) c.loop-var-test.true is is_zero c.loop-var.invariant)
+          let is_zero : k ≡ pos 0 = omega (arith, ints) in
+          rw w.items-is (nonzero_zero ks i k c.loop-var.items.items (nonzero_from 0 ks) c.loop-var-test.true is is_zero c.loop-var.invariant)
     ]
 
 pub new-requires : goal.new-requires
