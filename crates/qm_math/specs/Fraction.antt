@@ -1,5 +1,5 @@
 -- Fractions of whole numbers without a bound on their size, compared multiplied out.
-use Rattle.std.specs.Prelude.{◌≡◌, ℕ, ◌*◌, ℤ, pos, ◌+ℤ◌, ◌*ℤ◌, ◌≤ℤ◌, ◌<ℤ◌}
+use Rattle.std.specs.Prelude.{◌≡◌, ℕ, ℤ, pos, ◌*ℤ◌, ◌≤ℤ◌, ◌<ℤ◌}
 
 -- num / den, where den is above 0
 pub record Fraction : Type 0 where

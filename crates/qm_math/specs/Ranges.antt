@@ -1,5 +1,5 @@
 -- The whole numbers from a low end to a high end; there are none where the low end is the greater.
-use Rattle.std.specs.Prelude.{◌≡◌, ℕ, zero, suc, max, Bool, false, ◌||◌, ℤ, pos, negsuc, ◌+ℤ◌, ◌-ℤ◌, ◌*ℤ◌, ◌≤ℤ◌, unsigned_abs}
+use Rattle.std.specs.Prelude.{ℕ, zero, suc, max, Bool, false, ◌||◌, ℤ, pos, negsuc, ◌+ℤ◌, ◌-ℤ◌, ◌*ℤ◌, ◌≤ℤ◌, unsigned_abs}
 
 abbrev pub IsBetween : ℤ → ℤ → ℤ → Type 0
 IsBetween low high v = (low ≤ℤ v) × (v ≤ℤ high)

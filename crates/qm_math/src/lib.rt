@@ -5,4 +5,4 @@
 
 mod laws;
 
-pub use laws::{least_product_is_a_bound, fractions_compare};
+pub use laws::{fractions_compare, least_product_is_a_bound};

@@ -1,5 +1,5 @@
 -- How a problem ends.
-use Rattle.std.specs.Prelude.{ℕ, ◌<◌, ℤ, List, []}
+use Rattle.std.specs.Prelude.{◌<◌, ℤ, List, []}
 use Rattle.qm_math.specs.Fraction.{Fraction, IsSame}
 use Rattle.qm_model.specs.declared.game.Problem.{Problem}
 use Rattle.qm_model.specs.Plays.{IsPlay}

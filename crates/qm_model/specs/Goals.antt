@@ -1,5 +1,5 @@
 -- What the existential player is to reach.
-use Rattle.std.specs.Prelude.{ℕ, ◌<◌}
+use Rattle.std.specs.Prelude.{◌<◌}
 use Rattle.qm_math.specs.Fraction.{Fraction, IsAtMost, IsBelow}
 
 -- to meet the rows with any objective, with one of at least t, or with one above t

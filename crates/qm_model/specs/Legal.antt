@@ -1,5 +1,5 @@
 -- Which prefixes are legal: a test, by a search through the completions of the universal values.
-use Rattle.std.specs.Prelude.{◌≡◌, ℕ, ℤ, Bool, true, false, ◌&&◌, int_le, List, [], ◌∷◌, ◌++◌, length, drop, IsTrue, if◌then◌else◌}
+use Rattle.std.specs.Prelude.{◌≡◌, ℤ, Bool, true, false, ◌&&◌, int_le, List, [], ◌∷◌, ◌++◌, length, drop, IsTrue, if◌then◌else◌}
 use Rattle.std.specs.List.{list_all}
 use Rattle.qm_math.specs.Ranges.{some_between}
 use Rattle.qm_model.specs.declared.row.Row.{Row}

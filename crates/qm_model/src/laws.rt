@@ -9,17 +9,14 @@ ghost use Rattle.qm_model.specs.Sound.{IsSound};
 /// The test of a prefix passes exactly where some universal play agrees with its universal values.
 pub fn legal_means_some_play_agrees()
     ensures { (P : Problem) (prefix : List ℤ) → IsLegal P prefix ↔ AgreesWithPlay P prefix }
-{
-}
+{}
 
 /// Who wins a goal wins each goal that is no harder.
 pub fn an_easier_goal_is_won()
     ensures { (P : Problem) (prefix : List ℤ) (G H : Goal) → IsSound P → IsProper G → IsProper H → IsNoHarder G H → Wins P prefix H → Wins P prefix G }
-{
-}
+{}
 
 /// A problem has at most one ending.
 pub fn a_problem_has_one_ending()
     ensures { (P : Problem) (e f : Ending) → IsSound P → HasEnding P e → HasEnding P f → IsSameEnding e f }
-{
-}
+{}

@@ -1,0 +1,72 @@
+-- What may be answered: which status and text go with which words and input.
+use Rattle.std.specs.Prelude.{◌≡◌, ◌⊎◌, ℕ, ◌+◌, ◌≤◌, ℤ, List, length, codes}
+use Rattle.std.specs.declared.option.Option.{Option}
+use Rattle.std.specs.Io.KnownBytes.{Appends, Consumes, IsAtEnd}
+use Rattle.qm_io.specs.Causes.{Rose}
+use Rattle.qm_io.specs.Bytes.{AppendsFront, TookSome}
+use Rattle.qm_math.specs.Fraction.{whole}
+use Rattle.qm_model.specs.declared.game.Problem.{Problem}
+use Rattle.qm_model.specs.Endings.{HasEnding, Infeasible, Optimal}
+use Rattle.qm_parse.specs.Small.{IsSmallText}
+use Rattle.qm_top.specs.declared.command.Command.{Command}
+use Rattle.qm_top.specs.declared.command.Command.TheVariants.{Solve}
+use Rattle.qm_top.specs.Words.{Asks}
+use Rattle.qm_top.specs.Lines.{line, optimal_line}
+
+-- what became of a source: the bytes that it had left and has left, where it tells them, and its faults
+pub record Reading : Type 0 where
+  pub before : Option (List ℕ)
+  pub after : Option (List ℕ)
+  pub faults_before : ℕ
+  pub faults_after : ℕ
+
+abbrev pub reading : Option (List ℕ) → Option (List ℕ) → ℕ → ℕ → Reading
+reading before after faults_before faults_after = record { before = before; after = after; faults_before = faults_before; faults_after = faults_after }
+
+-- nothing was read
+pub record IsUnread (read : Reading) : Type 0 where
+  pub bytes : read.after ≡ read.before
+  pub faults : read.faults_after ≡ read.faults_before
+
+-- the text is the line that claims the problem's ending
+pub data Claims (P : Problem) (text : List ℕ) : Type 0 where
+  infeasible : HasEnding P Infeasible → text ≡ line (codes "infeasible") → Claims P text
+  optimal : (n : ℤ) → HasEnding P (Optimal (whole n)) → text ≡ optimal_line n → Claims P text
+
+-- what `solve` answers about the whole bytes of a problem
+pub data SolvesText (bytes : List ℕ) (status : ℕ) (text : List ℕ) : Type 0 where
+  -- the claim of the one problem that the bytes spell
+  claimed : (P : Problem) → IsSmallText bytes P → Claims P text → status ≡ 0 → SolvesText bytes status text
+  -- the bytes are none that can be solved yet
+  unbuilt : ((P : Problem) → ¬ IsSmallText bytes P) → status ≡ 11 → text ≡ line (codes "unbuilt") → SolvesText bytes status text
+  out_of_memory : status ≡ 10 → text ≡ line (codes "memory") → SolvesText bytes status text
+
+-- what `solve` answers, by what was read of the problem: at most 65537 bytes
+pub data Solves (read : Reading) (status : ℕ) (text : List ℕ) : Type 0 where
+  -- the problem was read to its end
+  whole_text : (bytes : List ℕ) → Consumes read.before read.after bytes → IsAtEnd read.after → length bytes ≤ 65536 → SolvesText bytes status text → Solves read status text
+  -- the problem is longer than any that can be solved yet
+  longer : (bytes : List ℕ) → Consumes read.before read.after bytes → length bytes ≡ 65537 → status ≡ 11 → text ≡ line (codes "unbuilt") → Solves read status text
+  -- the source failed
+  failed : TookSome read.before read.after 65537 → Rose read.faults_before read.faults_after → status ≡ 3 → text ≡ line (codes "read problem") → Solves read status text
+  -- there was no memory for the bytes
+  no_room : TookSome read.before read.after 65537 → status ≡ 10 → text ≡ line (codes "memory") → Solves read status text
+
+-- The answers, by command. Where the words are none of the forms, nothing is read and the usage is told.
+pub data IsAnswer (words : List (List ℕ)) (problem : Reading) (status : ℕ) (text : List ℕ) : Type 0 where
+  misused : ((command : Command) → ¬ Asks command words) → IsUnread problem → status ≡ 2 → text ≡ line (codes "usage: qyas solve FILE") → IsAnswer words problem status text
+  solved : Asks Solve words → Solves problem status text → IsAnswer words problem status text
+
+-- the sink took exactly the text that goes with this status
+pub record Took (before after : Option (List ℕ)) (words : List (List ℕ)) (problem : Reading) (status : ℕ) : Type 0 where
+  pub text : List ℕ
+  pub answer : IsAnswer words problem status text
+  pub taken : Appends before after text
+
+-- the sink failed, and took a part of the text that goes with some status
+pub record Failed (before after : Option (List ℕ)) (faults_before faults_after : ℕ) (words : List (List ℕ)) (problem : Reading) : Type 0 where
+  pub status : ℕ
+  pub text : List ℕ
+  pub answer : IsAnswer words problem status text
+  pub taken : AppendsFront before after text
+  pub rose : Rose faults_before faults_after
