@@ -1,0 +1,71 @@
+ghost use Rattle.std.specs.Prelude.{◌≡◌, IfOk, MatchOption};
+ghost use Rattle.qm_parse.specs.Reading.{Gives, each_at, new_line_at, right_at, row_at};
+
+use crate::terms::{literal, more_terms, number, term};
+use crate::unread::Unread;
+use crate::words::Word;
+use crate::written::WrittenRow;
+use qm_io::{List, Memory};
+use std::alloc::Global;
+
+/// The rows that stand first, as far as they go.
+pub fn rows(alloc: Global, words: &[Word]) -> Result<(List<WrittenRow>, &[Word]), Memory>
+    ensures { IfOk result (λ x. each_at row_at words.now ≡ (x.0, x.1.now)) }
+{
+    let mut rows = List::new(alloc);
+    let mut rest = words;
+    loop {
+        match row(alloc, rest) {
+            Ok((row, behind)) => {
+                rows.push(row)?;
+                rest = behind;
+            }
+            Err(Unread::Grammar) => return Ok((rows, rest)),
+            Err(Unread::Memory) => return Err(Memory),
+        }
+    }
+}
+
+/// The row that stands first, to the end of its line.
+fn row(alloc: Global, words: &[Word]) -> Result<(WrittenRow, &[Word]), Unread>
+    ensures { Gives (λ x. (x.0, x.1.now)) result (row_at words.now) }
+{
+    let (first, rest) = term(alloc, words, true)?;
+    let (terms, rest) = more_terms(alloc, first, rest)?;
+    let Some(rest) = literal(rest, b"<=") else {
+        return Err(Unread::Grammar);
+    };
+    let Some((right, rest)) = right(rest) else {
+        return Err(Unread::Grammar);
+    };
+    let Some(rest) = new_line(rest) else {
+        return Err(Unread::Grammar);
+    };
+    Ok((WrittenRow { terms, right }, rest))
+}
+
+/// The right side of a row.
+fn right(words: &[Word]) -> Option<(i64, &[Word])>
+    ensures { MatchOption result (right_at words.now ≡ None) (λ x. right_at words.now ≡ Some (x.0, x.1.now)) }
+{
+    match literal(words, b"-") {
+        Some(behind) => {
+            let (n, rest) = number(behind)?;
+            Some((-i64::from(n), rest))
+        }
+        None => {
+            let (n, rest) = number(words)?;
+            Some((i64::from(n), rest))
+        }
+    }
+}
+
+/// The words, of which the first has to come after an LF.
+fn new_line(words: &[Word]) -> Option<&[Word]>
+    ensures { MatchOption result (new_line_at words.now ≡ None) (λ rest. new_line_at words.now ≡ Some rest.now) }
+{
+    match words.split_first() {
+        Some((word, _)) if word.after_line => Some(words),
+        _ => None,
+    }
+}
