@@ -31,7 +31,7 @@ at_most item (suc n) ws = elim (item ws) [
       | Some x ↦ (x.0 ∷ (at_most item n x.1).0, (at_most item n x.1).1)
     ]
 
--- an item takes a word at least, so that the number of words is no bound
+-- as many items as can be read: each takes a word at least, so that there are no more of them than words
 unfoldable pub each_at : {A : Type 0} → (List Word → Option (A × List Word)) → List Word → List A × List Word
 each_at item ws = at_most item (length ws) ws
 
@@ -110,9 +110,13 @@ names_at heading ws = do
 unfoldable pub optional_names_at : List ℕ → List Word → List (List ℕ) × List Word
 optional_names_at heading ws = elim (names_at heading ws) [ None ↦ ([], ws) | Some x ↦ x ]
 
+abbrev pub is_nothing : List Word → Bool
+is_nothing [] = true
+is_nothing (word ∷ ws) = false
+
 -- the last word, with none behind it
-unfoldable pub end_at : List Word → Option (List Word)
-end_at ws = literal_at (codes "END") ws >>= λ rest. elim rest [ [] ↦ Some [] | word ∷ more ↦ None ]
+unfoldable pub is_end : List Word → Bool
+is_end ws = elim (literal_at (codes "END") ws) [ None ↦ false | Some rest ↦ is_nothing rest ]
 
 unfoldable pub small_text_at : List Word → Option Written
 small_text_at ws = do
@@ -120,12 +124,11 @@ small_text_at ws = do
   rows ← rows_at objective.1
   binaries ← names_at (codes "BINARIES") rows.1
   order ← names_at (codes "ORDER") (optional_names_at (codes "ALL") (optional_names_at (codes "EXISTS") binaries.1).1).1
-  end ← end_at order.1
-  Some (record {
+  if is_end order.1 then Some (record {
     objective = objective.0;
     rows = rows.0;
     binaries = binaries.0;
     exists = (optional_names_at (codes "EXISTS") binaries.1).0;
     universal = (optional_names_at (codes "ALL") (optional_names_at (codes "EXISTS") binaries.1).1).0;
     order = order.0;
-  })
+  }) else None

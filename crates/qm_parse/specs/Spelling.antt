@@ -5,20 +5,23 @@ use Rattle.std.specs.List.{list_all, list_any}
 use Rattle.std.specs.Str.{str_eq_ignore_ascii_case}
 
 -- the words that are no names, in whatever case
-abbrev pub reserved : List (List ℕ)
+unfoldable pub reserved : List (List ℕ)
 reserved =
     codes "MAXIMIZE" ∷ codes "MAX" ∷ codes "MINIMIZE" ∷ codes "MIN" ∷ codes "SUBJECT"
     ∷ codes "TO" ∷ codes "ST" ∷ codes "UNCERTAINTY" ∷ codes "BOUNDS" ∷ codes "GENERALS"
     ∷ codes "GENERAL" ∷ codes "BINARIES" ∷ codes "BINARY" ∷ codes "EXISTS" ∷ codes "ALL"
     ∷ codes "ORDER" ∷ codes "END" ∷ codes "INF" ∷ codes "INFINITY" ∷ codes "FREE" ∷ []
 
-abbrev pub is_reserved : List ℕ → Bool
+unfoldable pub is_reserved : List ℕ → Bool
 is_reserved word = list_any (str_eq_ignore_ascii_case word) reserved
 
--- a name is a letter, and letters and digits behind it, and isn't reserved
+-- a letter, and letters and digits behind it
+unfoldable pub is_identifier : List ℕ → Bool
+is_identifier [] = false
+is_identifier (letter ∷ others) = is_ascii_alphabetic letter && list_all is_ascii_alphanumeric others
+
 unfoldable pub is_name : List ℕ → Bool
-is_name [] = false
-is_name (letter ∷ others) = is_ascii_alphabetic letter && list_all is_ascii_alphanumeric others && not (is_reserved (letter ∷ others))
+is_name word = is_identifier word && not (is_reserved word)
 
 -- a number has one to six digits
 unfoldable pub is_number : List ℕ → Bool

@@ -27,6 +27,7 @@ pub fn rows(alloc: Global, words: &[Word]) -> Result<(List<WrittenRow>, &[Word])
 }
 
 /// The row that stands first, to the end of its line.
+#[tactic(auto, unfolding(crate::specs::Reading::row_at))]
 fn row(alloc: Global, words: &[Word]) -> Result<(WrittenRow, &[Word]), Unread>
     ensures { Gives (λ x. (x.0, x.1.now)) result (row_at words.now) }
 {
@@ -45,6 +46,7 @@ fn row(alloc: Global, words: &[Word]) -> Result<(WrittenRow, &[Word]), Unread>
 }
 
 /// The right side of a row.
+#[tactic(auto, unfolding(crate::specs::Reading::right_at))]
 fn right(words: &[Word]) -> Option<(i64, &[Word])>
     ensures { MatchOption result (right_at words.now ≡ None) (λ x. right_at words.now ≡ Some (x.0, x.1.now)) }
 {
@@ -61,6 +63,7 @@ fn right(words: &[Word]) -> Option<(i64, &[Word])>
 }
 
 /// The words, of which the first has to come after an LF.
+#[tactic(auto, unfolding(crate::specs::Reading::new_line_at))]
 fn new_line(words: &[Word]) -> Option<&[Word]>
     ensures { MatchOption result (new_line_at words.now ≡ None) (λ rest. new_line_at words.now ≡ Some rest.now) }
 {

@@ -1,5 +1,5 @@
 ghost use Rattle.std.specs.Prelude.{◌≡◌, IfOk};
-ghost use Rattle.qm_parse.specs.Reading.{Gives, each_at, end_at, name_at, names_at, objective_at, optional_names_at, rows_at, small_text_at};
+ghost use Rattle.qm_parse.specs.Reading.{Gives, each_at, is_end, name_at, names_at, objective_at, optional_names_at, rows_at, small_text_at};
 
 use crate::rows::rows;
 use crate::terms::{literal, name, terms};
@@ -10,6 +10,7 @@ use qm_io::{List, Memory};
 use std::alloc::Global;
 
 /// What the words say, all of them.
+#[tactic(auto, unfolding(crate::specs::Reading::small_text_at))]
 pub fn small_text(alloc: Global, words: &[Word]) -> Result<Written, Unread>
     ensures { Gives (λ written. written) result (small_text_at words.now) }
 {
@@ -19,19 +20,31 @@ pub fn small_text(alloc: Global, words: &[Word]) -> Result<Written, Unread>
     let (exists, rest) = optional_names(alloc, b"EXISTS", rest)?;
     let (universal, rest) = optional_names(alloc, b"ALL", rest)?;
     let (order, rest) = headed_names(alloc, b"ORDER", rest)?;
-    match literal(rest, b"END") {
-        Some(behind) if behind.is_empty() => Ok(Written {
-            objective,
-            rows,
-            binaries,
-            exists,
-            universal,
-            order,
-        }),
-        _ => Err(Unread::Grammar),
+    if !is_end(rest) {
+        return Err(Unread::Grammar);
+    }
+    Ok(Written {
+        objective,
+        rows,
+        binaries,
+        exists,
+        universal,
+        order,
+    })
+}
+
+/// Whether this is the last word, and the text's end.
+#[tactic(auto, unfolding(crate::specs::Reading::is_end))]
+fn is_end(words: &[Word]) -> bool
+    ensures { result ≡ is_end words.now }
+{
+    match literal(words, b"END") {
+        Some(behind) => behind.is_empty(),
+        None => false,
     }
 }
 
+#[tactic(auto, unfolding(crate::specs::Reading::objective_at))]
 fn objective(alloc: Global, words: &[Word]) -> Result<(List<WrittenTerm>, &[Word]), Unread>
     ensures { Gives (λ x. (x.0, x.1.now)) result (objective_at words.now) }
 {
@@ -41,6 +54,7 @@ fn objective(alloc: Global, words: &[Word]) -> Result<(List<WrittenTerm>, &[Word
     }
 }
 
+#[tactic(auto, unfolding(crate::specs::Reading::rows_at))]
 fn headed_rows(alloc: Global, words: &[Word]) -> Result<(List<WrittenRow>, &[Word]), Unread>
     ensures { Gives (λ x. (x.0, x.1.now)) result (rows_at words.now) }
 {
@@ -54,6 +68,7 @@ fn headed_rows(alloc: Global, words: &[Word]) -> Result<(List<WrittenRow>, &[Wor
 }
 
 /// The names below a heading.
+#[tactic(auto, unfolding(crate::specs::Reading::names_at))]
 fn headed_names<'a>(alloc: Global, heading: &[u8], words: &'a [Word]) -> Result<(List<List<u8>>, &'a [Word]), Unread>
     ensures { Gives (λ x. (x.0, x.1.now)) result (names_at heading.now words.now) }
 {
@@ -64,6 +79,7 @@ fn headed_names<'a>(alloc: Global, heading: &[u8], words: &'a [Word]) -> Result<
 }
 
 /// The names below a heading, and none where it isn't written.
+#[tactic(auto, unfolding(crate::specs::Reading::optional_names_at, crate::specs::Reading::names_at))]
 fn optional_names<'a>(alloc: Global, heading: &[u8], words: &'a [Word]) -> Result<(List<List<u8>>, &'a [Word]), Memory>
     ensures { IfOk result (λ x. optional_names_at heading.now words.now ≡ (x.0, x.1.now)) }
 {

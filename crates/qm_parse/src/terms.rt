@@ -1,4 +1,4 @@
-ghost use Rattle.std.specs.Prelude.{◌≡◌, IfOk, false};
+ghost use Rattle.std.specs.Prelude.{◌≡◌, IfOk, MatchOption};
 ghost use Rattle.qm_parse.specs.Reading.{Gives, each_at, factor_at, literal_at, more_terms_at, name_at, number_at, sign_at, term_at, terms_at};
 
 use crate::spelling;
@@ -9,6 +9,7 @@ use qm_io::{List, Memory};
 use std::alloc::Global;
 
 /// The words behind this one, which has to stand first.
+#[tactic(auto, unfolding(crate::specs::Reading::literal_at))]
 pub fn literal<'a>(words: &'a [Word], spelling: &[u8]) -> Option<&'a [Word]>
     ensures { MatchOption result (literal_at spelling.now words.now ≡ None) (λ rest. literal_at spelling.now words.now ≡ Some rest.now) }
 {
@@ -19,6 +20,7 @@ pub fn literal<'a>(words: &'a [Word], spelling: &[u8]) -> Option<&'a [Word]>
 }
 
 /// The name that stands first.
+#[tactic(auto, unfolding(crate::specs::Reading::name_at))]
 pub fn name(alloc: Global, words: &[Word]) -> Result<(List<u8>, &[Word]), Unread>
     ensures { Gives (λ x. (x.0, x.1.now)) result (name_at words.now) }
 {
@@ -31,6 +33,7 @@ pub fn name(alloc: Global, words: &[Word]) -> Result<(List<u8>, &[Word]), Unread
 }
 
 /// The number that stands first.
+#[tactic(auto, unfolding(crate::specs::Reading::number_at))]
 pub fn number(words: &[Word]) -> Option<(u32, &[Word])>
     ensures { MatchOption result (number_at words.now ≡ None) (λ x. number_at words.now ≡ Some (x.0, x.1.now)) }
 {
@@ -40,6 +43,7 @@ pub fn number(words: &[Word]) -> Option<(u32, &[Word])>
 }
 
 /// Whether a minus stands first, and the words behind the sign.
+#[tactic(auto, unfolding(crate::specs::Reading::sign_at))]
 fn sign(words: &[Word], is_first: bool) -> Option<(bool, &[Word])>
     ensures { MatchOption result (sign_at is_first words.now ≡ None) (λ x. sign_at is_first words.now ≡ Some (x.0, x.1.now)) }
 {
@@ -53,6 +57,7 @@ fn sign(words: &[Word], is_first: bool) -> Option<(bool, &[Word])>
 }
 
 /// The factor that stands first, or 1.
+#[tactic(auto, unfolding(crate::specs::Reading::factor_at))]
 fn factor(words: &[Word]) -> (u32, &[Word])
     ensures { factor_at words.now ≡ (result.0, result.1.now) }
 {
@@ -63,6 +68,7 @@ fn factor(words: &[Word]) -> (u32, &[Word])
 }
 
 /// The term that stands first; only the first of its terms may be without a sign.
+#[tactic(auto, unfolding(crate::specs::Reading::term_at))]
 pub fn term(alloc: Global, words: &[Word], is_first: bool) -> Result<(WrittenTerm, &[Word]), Unread>
     ensures { Gives (λ x. (x.0, x.1.now)) result (term_at is_first words.now) }
 {
@@ -101,6 +107,7 @@ pub fn more_terms(alloc: Global, first: WrittenTerm, words: &[Word]) -> Result<(
 }
 
 /// The terms that stand first, as far as they go.
+#[tactic(auto, unfolding(crate::specs::Reading::terms_at))]
 pub fn terms(alloc: Global, words: &[Word]) -> Result<(List<WrittenTerm>, &[Word]), Memory>
     ensures { IfOk result (λ x. terms_at words.now ≡ (x.0, x.1.now)) }
 {

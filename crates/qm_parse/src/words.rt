@@ -1,4 +1,4 @@
-ghost use Rattle.std.specs.Prelude.{◌≡◌, ◌<◌, ◌∷◌, false, length, cond, IfOk};
+ghost use Rattle.std.specs.Prelude.{◌≡◌, ◌≢◌, ◌<◌, ◌≤◌, ◌∷◌, [], true, false, length, cond, IfOk};
 ghost use Rattle.qm_parse.specs.Words.{after_line, goes_on, is_blank, words};
 
 use qm_io::{List, Memory};
@@ -37,7 +37,7 @@ fn without_blanks(text: &[u8]) -> (bool, &[u8])
         if !blank(*byte) {
             return (after_line, &text[i..]);
         }
-        after_line = after_line || *byte == b'\n';
+        after_line |= *byte == b'\n';
     }
     (after_line, &[])
 }
