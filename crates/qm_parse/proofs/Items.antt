@@ -16,12 +16,12 @@ pub option_cases : {A : Type 0} (o : Option A) → (o ≡ None) ⊎ ((x : A) × 
 option_cases None = inl refl
 option_cases (Some x) = inr (x, refl)
 
-at_most-none : {A : Type 0} (item : List Word → Option (A × List Word)) (n : ℕ) (ws : List Word) → item ws ≡ None → at_most item n ws ≡ ([], ws)
+pub at_most-none : {A : Type 0} (item : List Word → Option (A × List Word)) (n : ℕ) (ws : List Word) → item ws ≡ None → at_most item n ws ≡ ([], ws)
 unfolding at_most
 at_most-none item zero ws e = refl
 at_most-none item (suc n) ws e = rw (e, at_most) refl
 
-at_most-some : {A : Type 0} (item : List Word → Option (A × List Word)) (n : ℕ) (ws : List Word) (x : A × List Word) → item ws ≡ Some x → at_most item (suc n) ws ≡ with_front (x.0 ∷ []) (at_most item n x.1)
+pub at_most-some : {A : Type 0} (item : List Word → Option (A × List Word)) (n : ℕ) (ws : List Word) (x : A × List Word) → item ws ≡ Some x → at_most item (suc n) ws ≡ with_front (x.0 ∷ []) (at_most item n x.1)
 unfolding at_most
 at_most-some item n ws x e = rw (e, at_most) refl
 

@@ -8,22 +8,7 @@ use Rattle.qm_parse.specs.declared.written.WrittenTerm.{WrittenTerm}
 use Rattle.qm_parse.specs.Spelling.{is_name, is_number, value_of}
 use Rattle.qm_parse.specs.Reading.{◌>>=◌, literal_at, name_at, number_at, new_line_at, sign_at, factor_at, term_at, more_terms_at, right_at, row_at, each_at, at_most}
 use Rattle.qm_parse.proofs.Items.{Shrinks, option_cases, each_at-shrinks}
-
--- the value of a step that did not fail
-pub bind_some : {A B : Type 0} (o : Option A) (f : A → Option B) (y : B) → (o >>= f) ≡ Some y → (x : A) × (o ≡ Some x) × (f x ≡ Some y)
-bind_some (Some x) f y e = (x, refl, e)
-bind_some None f y e = absurd cc
-
--- a test that did not fail
-pub test_some : {A : Type 0} (b : Bool) (x y : A) → cond b (Some x) None ≡ Some y → (b ≡ true) × (x ≡ y)
-test_some true x y e = (refl, cc)
-test_some false x y e = absurd cc
-
-abbrev some : {A : Type 0} → A → Option A
-some x = Some x
-
-pub some_is : {A : Type 0} (x y : A) → some x ≡ some y → x ≡ y
-some_is x y e = cc
+use Rattle.qm_parse.proofs.Steps.{some, some_is, bind_some, test_some, row_steps}
 
 pub literal_at-shrinks : (spelling : List ℕ) (ws rest : List Word) → literal_at spelling ws ≡ Some rest → length rest < length ws
 unfolding literal_at
@@ -104,58 +89,6 @@ new_line_at-same : (ws rest : List Word) → new_line_at ws ≡ Some rest → ws
 unfolding new_line_at
 new_line_at-same [] rest e = absurd cc
 new_line_at-same (w ∷ ws) rest e = (test_some w.after_line (w ∷ ws) rest e).1
-
--- what is left of a row: behind its first term, behind its sign, behind its right side
-abbrev pub row_made : WrittenTerm × List Word → ℤ × List Word → List Word → Option (WrittenRow × List Word)
-row_made first right rest = Some (record { terms = (more_terms_at first.0 first.1).0; right = right.0 }, rest)
-
-abbrev pub row_ended : WrittenTerm × List Word → ℤ × List Word → Option (WrittenRow × List Word)
-row_ended first right = new_line_at right.1 >>= λ rest. row_made first right rest
-
-abbrev pub row_bounded : WrittenTerm × List Word → List Word → Option (WrittenRow × List Word)
-row_bounded first is_most = right_at is_most >>= λ right. row_ended first right
-
-abbrev pub row_begun : WrittenTerm × List Word → Option (WrittenRow × List Word)
-row_begun first = literal_at (codes "<=") (more_terms_at first.0 first.1).1 >>= λ is_most. row_bounded first is_most
-
--- the steps of a row that was read
-pub record RowSteps (ws : List Word) (x : WrittenRow × List Word) : Type 0 where
-  pub first : WrittenTerm × List Word
-  pub is_most : List Word
-  pub right : ℤ × List Word
-  pub first_is : term_at true ws ≡ Some first
-  pub is_most_is : literal_at (codes "<=") (more_terms_at first.0 first.1).1 ≡ Some is_most
-  pub right_is : right_at is_most ≡ Some right
-  pub line_is : new_line_at right.1 ≡ Some x.1
-  pub terms_is : x.0.terms ≡ (more_terms_at first.0 first.1).0
-  pub value_is : x.0.right ≡ right.0
-
-made_is : (first : WrittenTerm × List Word) (right : ℤ × List Word) (rest : List Word) (x : WrittenRow × List Word) → row_made first right rest ≡ Some x
-    → (rest ≡ x.1) × (x.0.terms ≡ (more_terms_at first.0 first.1).0) × (x.0.right ≡ right.0)
-made_is first right rest x e =
-    let made : WrittenRow × List Word = (record { terms = (more_terms_at first.0 first.1).0; right = right.0 }, rest) in
-    let is : made ≡ x = some_is made x e in
-    (ap (λ y. y.1) is, ap (λ y. y.0.terms) (sym is), ap (λ y. y.0.right) (sym is))
-
-pub row_steps : (ws : List Word) (x : WrittenRow × List Word) → row_at ws ≡ Some x → RowSteps ws x
-unfolding row_at
-row_steps ws x e =
-    let first = bind_some (term_at true ws) row_begun x e in
-    let is_most = bind_some (literal_at (codes "<=") (more_terms_at first.0.0 first.0.1).1) (row_bounded first.0) x first.2 in
-    let right = bind_some (right_at is_most.0) (row_ended first.0) x is_most.2 in
-    let rest = bind_some (new_line_at right.0.1) (row_made first.0 right.0) x right.2 in
-    let made = made_is first.0 right.0 rest.0 x rest.2 in
-    record {
-      first = first.0;
-      is_most = is_most.0;
-      right = right.0;
-      first_is = first.1;
-      is_most_is = is_most.1;
-      right_is = right.1;
-      line_is = rest.1 ∙ ap (λ r. Some r) made.0;
-      terms_is = made.1;
-      value_is = made.2;
-    }
 
 pub row_at-shrinks : (ws : List Word) (x : WrittenRow × List Word) → row_at ws ≡ Some x → length x.1 < length ws
 row_at-shrinks ws x e =

@@ -98,5 +98,5 @@ SmallText written =
     then Literal (codes "END")
 
 -- the text is a small text that says this, from its first word to its last
-abbrev pub Spells : List ℕ → Written → Type 0
+unfoldable pub Spells : List ℕ → Written → Type 0
 Spells text written = SmallText written (words text) []
