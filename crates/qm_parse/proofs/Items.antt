@@ -41,10 +41,10 @@ at_most-any item (suc n) (suc m) ws shrinks p q =
     elim (option_cases (item ws)) [
       | inl e ↦ at_most-none item (suc n) ws e ∙ sym (at_most-none item (suc m) ws e)
       | inr x ↦
-        let fewer = shrinks ws x.0 x.1 in
-        at_most-some item n ws x.0 x.1
-        ∙ ap (with_front (x.0.0 ∷ [])) (at_most-any item n m x.0.1 shrinks (omega arith) (omega arith))
-        ∙ sym (at_most-some item m ws x.0 x.1)
+          let fewer = shrinks ws x.0 x.1 in
+          at_most-some item n ws x.0 x.1
+          ∙ ap (with_front (x.0.0 ∷ [])) (at_most-any item n m x.0.1 shrinks (omega arith) (omega arith))
+          ∙ sym (at_most-some item m ws x.0 x.1)
     ]
 
 pub each_at-none : {A : Type 0} (item : List Word → Option (A × List Word)) (ws : List Word) → item ws ≡ None → each_at item ws ≡ ([], ws)
@@ -66,7 +66,7 @@ pub each_at-step : {A : Type 0} (item : List Word → Option (A × List Word)) (
     → Shrinks item → item ws ≡ Some (x, behind) → with_front front (each_at item ws) ≡ total → with_front (front ++ x ∷ []) (each_at item behind) ≡ total
 each_at-step item ws x behind front total shrinks e so_far =
     let regrouped : with_front (front ++ x ∷ []) (each_at item behind) ≡ with_front front (with_front (x ∷ []) (each_at item behind)) =
-      ap (λ items. (items, (each_at item behind).1)) (append_assoc front (x ∷ []) (each_at item behind).0) in
+    ap (λ items. (items, (each_at item behind).1)) (append_assoc front (x ∷ []) (each_at item behind).0) in
     regrouped ∙ ap (with_front front) (sym (each_at-some item ws (x, behind) shrinks e)) ∙ so_far
 
 -- a loop's end: no item stands here
@@ -81,9 +81,9 @@ at_most-shrinks item (suc n) ws shrinks =
     elim (option_cases (item ws)) [
       | inl e ↦ rw (at_most-none item (suc n) ws e) (omega arith)
       | inr x ↦
-        let fewer = shrinks ws x.0 x.1 in
-        let others = at_most-shrinks item n x.0.1 shrinks in
-        rw (at_most-some item n ws x.0 x.1) (omega arith)
+          let fewer = shrinks ws x.0 x.1 in
+          let others = at_most-shrinks item n x.0.1 shrinks in
+          rw (at_most-some item n ws x.0 x.1) (omega arith)
     ]
 
 pub each_at-shrinks : {A : Type 0} (item : List Word → Option (A × List Word)) (ws : List Word) → Shrinks item → length (each_at item ws).1 ≤ length ws

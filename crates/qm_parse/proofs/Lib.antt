@@ -1,6 +1,6 @@
-pub mod Again
 pub mod Items
+pub mod ReadIsWritten
 pub mod Shrinks
 pub mod Steps
-pub mod Takes
 pub mod TextWords
+pub mod WrittenIsRead

@@ -1,13 +1,13 @@
 -- What is read takes one word at least.
-use Rattle.std.proofs.Common.{◌≡◌, ℕ, ◌+◌, ◌<◌, ◌≤◌, Bool, true, false, cond, List, [], ◌∷◌, length, Option, Some, None, ℤ, pos, inl, inr, refl, sym, ap, ◌∙◌, arith}
+use Rattle.std.proofs.Common.{◌≡◌, ℕ, ◌<◌, ◌≤◌, Bool, true, false, cond, List, [], ◌∷◌, length, Some, None, ℤ, pos, inl, inr, refl, ap, arith}
 use Rattle.std.specs.Prelude.{codes, neg_ℤ}
 use Rattle.std.specs.Str.{bytes_eq}
 use Rattle.qm_parse.specs.declared.words.Word.{Word}
 use Rattle.qm_parse.specs.declared.written.WrittenRow.{WrittenRow}
 use Rattle.qm_parse.specs.declared.written.WrittenTerm.{WrittenTerm}
 use Rattle.qm_parse.specs.Spelling.{is_name, is_number, value_of}
-use Rattle.qm_parse.specs.Reading.{◌>>=◌, literal_at, name_at, number_at, new_line_at, sign_at, factor_at, term_at, more_terms_at, right_at, row_at, each_at, at_most}
-use Rattle.qm_parse.proofs.Items.{Shrinks, option_cases, each_at-shrinks}
+use Rattle.qm_parse.specs.Reading.{◌>>=◌, literal_at, name_at, number_at, new_line_at, sign_at, factor_at, term_at, more_terms_at, right_at, row_at}
+use Rattle.qm_parse.proofs.Items.{option_cases, each_at-shrinks}
 use Rattle.qm_parse.proofs.Steps.{some, some_is, bind_some, test_some, row_steps}
 
 pub literal_at-shrinks : (spelling : List ℕ) (ws rest : List Word) → literal_at spelling ws ≡ Some rest → length rest < length ws
@@ -38,19 +38,19 @@ unfolding sign_at
 sign_at-shrinks is_first ws x e =
     elim (option_cases (literal_at (codes "-") ws)) [
       | inr minus ↦
-        let fewer = literal_at-shrinks (codes "-") ws minus.0 minus.1 in
-        let found : some (true, minus.0) ≡ Some x = rw (← e, minus.1, sign_at) refl in
-        omega (arith, ap (λ y. length y.1) (some_is (true, minus.0) x found))
+          let fewer = literal_at-shrinks (codes "-") ws minus.0 minus.1 in
+          let found : some (true, minus.0) ≡ Some x = rw (← e, minus.1, sign_at) refl in
+          omega (arith, ap (λ y. length y.1) (some_is (true, minus.0) x found))
       | inl no_minus ↦
-        elim (option_cases (literal_at (codes "+") ws)) [
-          | inr plus ↦
-            let fewer = literal_at-shrinks (codes "+") ws plus.0 plus.1 in
-            let found : some (false, plus.0) ≡ Some x = rw (← e, no_minus, plus.1, sign_at) refl in
-            omega (arith, ap (λ y. length y.1) (some_is (false, plus.0) x found))
-          | inl no_plus ↦
-            let found : cond is_first (some (false, ws)) None ≡ Some x = rw (← e, no_minus, no_plus, sign_at) refl in
-            omega (arith, ap (λ y. length y.1) (test_some is_first (false, ws) x found).1)
-        ]
+          elim (option_cases (literal_at (codes "+") ws)) [
+            | inr plus ↦
+                let fewer = literal_at-shrinks (codes "+") ws plus.0 plus.1 in
+                let found : some (false, plus.0) ≡ Some x = rw (← e, no_minus, plus.1, sign_at) refl in
+                omega (arith, ap (λ y. length y.1) (some_is (false, plus.0) x found))
+            | inl no_plus ↦
+                let found : cond is_first (some (false, ws)) None ≡ Some x = rw (← e, no_minus, no_plus, sign_at) refl in
+                omega (arith, ap (λ y. length y.1) (test_some is_first (false, ws) x found).1)
+          ]
     ]
 
 pub term_at-shrinks : (is_first : Bool) (ws : List Word) (x : WrittenTerm × List Word) → term_at is_first ws ≡ Some x → length x.1 < length ws
@@ -73,16 +73,16 @@ unfolding right_at
 right_at-shrinks ws x e =
     elim (option_cases (literal_at (codes "-") ws)) [
       | inl no_minus ↦
-        let found : (number_at ws >>= λ n. some (pos n.0, n.1)) ≡ Some x = rw (← e, no_minus, right_at) refl in
-        let n = bind_some (number_at ws) (λ n. some (pos n.0, n.1)) x found in
-        let fewer = number_at-shrinks ws n.0 n.1 in
-        omega (arith, ap (λ y. length y.1) (some_is _ x n.2))
+          let found : (number_at ws >>= λ n. some (pos n.0, n.1)) ≡ Some x = rw (← e, no_minus, right_at) refl in
+          let n = bind_some (number_at ws) (λ n. some (pos n.0, n.1)) x found in
+          let fewer = number_at-shrinks ws n.0 n.1 in
+          omega (arith, ap (λ y. length y.1) (some_is _ x n.2))
       | inr minus ↦
-        let found : (number_at minus.0 >>= λ n. some (neg_ℤ (pos n.0), n.1)) ≡ Some x = rw (← e, minus.1, right_at) refl in
-        let n = bind_some (number_at minus.0) (λ n. some (neg_ℤ (pos n.0), n.1)) x found in
-        let behind_minus = literal_at-shrinks (codes "-") ws minus.0 minus.1 in
-        let fewer = number_at-shrinks minus.0 n.0 n.1 in
-        omega (arith, ap (λ y. length y.1) (some_is _ x n.2))
+          let found : (number_at minus.0 >>= λ n. some (neg_ℤ (pos n.0), n.1)) ≡ Some x = rw (← e, minus.1, right_at) refl in
+          let n = bind_some (number_at minus.0) (λ n. some (neg_ℤ (pos n.0), n.1)) x found in
+          let behind_minus = literal_at-shrinks (codes "-") ws minus.0 minus.1 in
+          let fewer = number_at-shrinks minus.0 n.0 n.1 in
+          omega (arith, ap (λ y. length y.1) (some_is _ x n.2))
     ]
 
 new_line_at-same : (ws rest : List Word) → new_line_at ws ≡ Some rest → ws ≡ rest

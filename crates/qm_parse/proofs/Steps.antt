@@ -1,11 +1,11 @@
 -- One step of each reader on lists: what it answers where its first part was read, and where not.
-use Rattle.std.proofs.Common.{◌≡◌, ℕ, ℤ, pos, Bool, true, false, cond, List, [], ◌∷◌, Option, Some, None, refl, sym, ap, ◌∙◌}
+use Rattle.std.proofs.Common.{◌≡◌, ℕ, ℤ, pos, Bool, true, false, cond, List, [], Option, Some, None, refl, sym, ap, subst}
 use Rattle.std.specs.Prelude.{codes, neg_ℤ}
 use Rattle.qm_parse.specs.declared.words.Word.{Word}
 use Rattle.qm_parse.specs.declared.written.Written.{Written}
 use Rattle.qm_parse.specs.declared.written.WrittenRow.{WrittenRow}
 use Rattle.qm_parse.specs.declared.written.WrittenTerm.{WrittenTerm}
-use Rattle.qm_parse.specs.Reading.{◌>>=◌, each_at, literal_at, name_at, number_at, new_line_at, sign_at, factor_at, term_at, more_terms_at, terms_at, right_at, row_at, rows_at, names_at, optional_names_at, is_nothing, is_end}
+use Rattle.qm_parse.specs.Reading.{◌>>=◌, literal_at, number_at, new_line_at, sign_at, factor_at, term_at, more_terms_at, terms_at, right_at, row_at, rows_at, names_at, optional_names_at, is_nothing, is_end}
 
 -- the value of a step that did not fail
 pub bind_some : {A B : Type 0} (o : Option A) (f : A → Option B) (y : B) → (o >>= f) ≡ Some y → (x : A) × (o ≡ Some x) × (f x ≡ Some y)
@@ -132,7 +132,7 @@ row_steps ws x e =
       first_is = first.1;
       is_most_is = is_most.1;
       right_is = right.1;
-      line_is = rest.1 ∙ ap (λ r. Some r) made.0;
+      line_is = subst (λ (r : List Word). new_line_at right.0.1 ≡ Some r) made.0 rest.1;
       terms_is = made.1;
       value_is = made.2;
     }

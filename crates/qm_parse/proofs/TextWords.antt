@@ -1,5 +1,5 @@
 -- The words at the front of a text.
-use Rattle.std.proofs.Common.{◌≡◌, ℕ, zero, suc, ◌+◌, ◌<◌, ◌≤◌, Bool, true, false, cond, ◌||◌, not, List, [], ◌∷◌, ◌++◌, length, get_or, take, drop, eqb, refl, sym, ap, ◌∙◌, arith, drop-cons, add-one}
+use Rattle.std.proofs.Common.{◌≡◌, ℕ, zero, suc, ◌+◌, ◌<◌, ◌≤◌, Bool, true, false, cond, ◌||◌, not, List, [], ◌∷◌, length, get_or, take, drop, eqb, refl, ap, ◌∙◌, arith, drop-cons, add-one}
 use Rattle.std.proofs.lemmas.List.{take_all, drop_all}
 use Rattle.qm_parse.specs.declared.words.Word.{Word}
 use Rattle.qm_parse.specs.Words.{after_line, goes_on, is_blank, with_byte, words}
@@ -23,7 +23,7 @@ pub blank_more : (text : List ℕ) (i : ℕ) (line : Bool) (whole : List Word) �
 blank_more text i line whole h blank so_far =
     let here : drop i text ≡ get_or text i 0 ∷ drop (i + 1) text = rw (add-one, drop-cons text i 0 h) refl in
     let first : words (drop i text) ≡ cond (eqb (get_or text i 0) 10) (after_line (words (drop (i + 1) text))) (words (drop (i + 1) text)) =
-      ap words here ∙ blank_first (get_or text i 0) (drop (i + 1) text) blank in
+    ap words here ∙ blank_first (get_or text i 0) (drop (i + 1) text) blank in
     so_far ∙ ap (λ ws. cond line (after_line ws) ws) first ∙ join line (eqb (get_or text i 0) 10) (words (drop (i + 1) text))
 
 goes_on_word : (byte : ℕ) (text : List ℕ) → is_blank byte ≡ false → goes_on text ≡ true → words (byte ∷ text) ≡ with_byte byte (words text)

@@ -8,7 +8,6 @@ use Rattle.qm_parse.specs.Spelling.{is_name, IsNumber}
 use Rattle.qm_parse.specs.Words.{words}
 
 infixr 20 ◌then◌
-
 abbrev pub Part : Type 1
 Part = List Word → List Word → Type 0
 

@@ -1,5 +1,5 @@
 -- Reading words from left to right, as the code does it. No public clause cites this.
-use Rattle.std.specs.Prelude.{◌≡◌, ℕ, zero, suc, ◌+◌, ℤ, pos, neg_ℤ, Bool, true, false, List, [], ◌∷◌, length, codes, Option, Some, None, Result, Ok, Err, option_and_then, if◌then◌else◌}
+use Rattle.std.specs.Prelude.{◌≡◌, ℕ, zero, suc, ℤ, pos, neg_ℤ, Bool, true, false, List, [], ◌∷◌, length, codes, Option, Some, None, Result, Ok, Err, if◌then◌else◌}
 use Rattle.std.specs.Str.{bytes_eq}
 use Rattle.qm_parse.specs.declared.words.Word.{Word}
 use Rattle.qm_parse.specs.declared.unread.Unread.{Unread}
@@ -27,9 +27,9 @@ Gives view (Err e) read = Fails e read
 unfoldable pub at_most : {A : Type 0} → (List Word → Option (A × List Word)) → ℕ → List Word → List A × List Word
 at_most item zero ws = ([], ws)
 at_most item (suc n) ws = elim (item ws) [
-      | None ↦ ([], ws)
-      | Some x ↦ (x.0 ∷ (at_most item n x.1).0, (at_most item n x.1).1)
-    ]
+  | None ↦ ([], ws)
+  | Some x ↦ (x.0 ∷ (at_most item n x.1).0, (at_most item n x.1).1)
+]
 
 -- as many items as can be read: each takes a word at least, so that there are no more of them than words
 unfoldable pub each_at : {A : Type 0} → (List Word → Option (A × List Word)) → List Word → List A × List Word
@@ -56,9 +56,9 @@ sign_at is_first ws =
     elim (literal_at (codes "-") ws) [
       | Some rest ↦ Some (true, rest)
       | None ↦ elim (literal_at (codes "+") ws) [
-          | Some rest ↦ Some (false, rest)
-          | None ↦ if is_first then Some (false, ws) else None
-        ]
+        | Some rest ↦ Some (false, rest)
+        | None ↦ if is_first then Some (false, ws) else None
+      ]
     ]
 
 unfoldable pub factor_at : List Word → ℕ × List Word
@@ -79,9 +79,9 @@ terms_at ws = elim (term_at true ws) [ None ↦ ([], ws) | Some x ↦ more_terms
 
 unfoldable pub right_at : List Word → Option (ℤ × List Word)
 right_at ws = elim (literal_at (codes "-") ws) [
-      | None ↦ number_at ws >>= λ n. Some (pos n.0, n.1)
-      | Some rest ↦ number_at rest >>= λ n. Some (neg_ℤ (pos n.0), n.1)
-    ]
+  | None ↦ number_at ws >>= λ n. Some (pos n.0, n.1)
+  | Some rest ↦ number_at rest >>= λ n. Some (neg_ℤ (pos n.0), n.1)
+]
 
 unfoldable pub row_at : List Word → Option (WrittenRow × List Word)
 row_at ws = do

@@ -3,6 +3,8 @@
 //! `read_written` reads what a text says as it is written, before names become numbers.
 #![tactic(auto)]
 
+mod first_word;
+mod laws;
 mod reader;
 mod rows;
 mod sections;
@@ -12,8 +14,8 @@ mod unread;
 mod words;
 mod written;
 
+pub use laws::one_reading;
 pub use reader::read_written;
-pub use words::Word;
 pub use written::{Written, WrittenRow, WrittenTerm};
 
 #[cfg(test)]

@@ -1,7 +1,8 @@
 ghost use Rattle.std.specs.Prelude.{◌≡◌, IfOk, MatchOption};
-ghost use Rattle.qm_parse.specs.Reading.{Gives, each_at, new_line_at, right_at, row_at};
+ghost use Rattle.qm_parse.specs.Reading.{Gives, each_at, right_at, row_at};
 
-use crate::terms::{literal, more_terms, number, term};
+use crate::first_word::{literal, new_line, number};
+use crate::terms::{more_terms, term};
 use crate::unread::Unread;
 use crate::words::Word;
 use crate::written::WrittenRow;
@@ -59,16 +60,5 @@ fn right(words: &[Word]) -> Option<(i64, &[Word])>
             let (n, rest) = number(words)?;
             Some((i64::from(n), rest))
         }
-    }
-}
-
-/// The words, of which the first has to come after an LF.
-#[tactic(auto, unfolding(crate::specs::Reading::new_line_at))]
-fn new_line(words: &[Word]) -> Option<&[Word]>
-    ensures { MatchOption result (new_line_at words.now ≡ None) (λ rest. new_line_at words.now ≡ Some rest.now) }
-{
-    match words.split_first() {
-        Some((word, _)) if word.after_line => Some(words),
-        _ => None,
     }
 }

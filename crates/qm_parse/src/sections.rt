@@ -1,8 +1,9 @@
 ghost use Rattle.std.specs.Prelude.{◌≡◌, IfOk};
 ghost use Rattle.qm_parse.specs.Reading.{Gives, each_at, is_end, name_at, names_at, objective_at, optional_names_at, rows_at, small_text_at};
 
+use crate::first_word::{literal, name};
 use crate::rows::rows;
-use crate::terms::{literal, name, terms};
+use crate::terms::terms;
 use crate::unread::Unread;
 use crate::words::Word;
 use crate::written::{Written, WrittenRow, WrittenTerm};
@@ -69,7 +70,11 @@ fn headed_rows(alloc: Global, words: &[Word]) -> Result<(List<WrittenRow>, &[Wor
 
 /// The names below a heading.
 #[tactic(auto, unfolding(crate::specs::Reading::names_at))]
-fn headed_names<'a>(alloc: Global, heading: &[u8], words: &'a [Word]) -> Result<(List<List<u8>>, &'a [Word]), Unread>
+fn headed_names<'a>(
+    alloc: Global,
+    heading: &[u8],
+    words: &'a [Word],
+) -> Result<(List<List<u8>>, &'a [Word]), Unread>
     ensures { Gives (λ x. (x.0, x.1.now)) result (names_at heading.now words.now) }
 {
     match literal(words, heading) {
@@ -80,7 +85,11 @@ fn headed_names<'a>(alloc: Global, heading: &[u8], words: &'a [Word]) -> Result<
 
 /// The names below a heading, and none where it isn't written.
 #[tactic(auto, unfolding(crate::specs::Reading::optional_names_at, crate::specs::Reading::names_at))]
-fn optional_names<'a>(alloc: Global, heading: &[u8], words: &'a [Word]) -> Result<(List<List<u8>>, &'a [Word]), Memory>
+fn optional_names<'a>(
+    alloc: Global,
+    heading: &[u8],
+    words: &'a [Word],
+) -> Result<(List<List<u8>>, &'a [Word]), Memory>
     ensures { IfOk result (λ x. optional_names_at heading.now words.now ≡ (x.0, x.1.now)) }
 {
     match literal(words, heading) {

@@ -1,46 +1,12 @@
 ghost use Rattle.std.specs.Prelude.{◌≡◌, IfOk, MatchOption};
-ghost use Rattle.qm_parse.specs.Reading.{Gives, each_at, factor_at, literal_at, more_terms_at, name_at, number_at, sign_at, term_at, terms_at};
+ghost use Rattle.qm_parse.specs.Reading.{Gives, factor_at, more_terms_at, sign_at, term_at, terms_at};
 
-use crate::spelling;
+use crate::first_word::{literal, name, number};
 use crate::unread::Unread;
-use crate::words::{Word, owned};
+use crate::words::Word;
 use crate::written::WrittenTerm;
 use qm_io::{List, Memory};
 use std::alloc::Global;
-
-/// The words behind this one, which has to stand first.
-#[tactic(auto, unfolding(crate::specs::Reading::literal_at))]
-pub fn literal<'a>(words: &'a [Word], spelling: &[u8]) -> Option<&'a [Word]>
-    ensures { MatchOption result (literal_at spelling.now words.now ≡ None) (λ rest. literal_at spelling.now words.now ≡ Some rest.now) }
-{
-    match words.split_first() {
-        Some((word, rest)) if word.bytes.as_slice() == spelling => Some(rest),
-        _ => None,
-    }
-}
-
-/// The name that stands first.
-#[tactic(auto, unfolding(crate::specs::Reading::name_at))]
-pub fn name(alloc: Global, words: &[Word]) -> Result<(List<u8>, &[Word]), Unread>
-    ensures { Gives (λ x. (x.0, x.1.now)) result (name_at words.now) }
-{
-    match words.split_first() {
-        Some((word, rest)) if spelling::name(word.bytes.as_slice()) => {
-            Ok((owned(alloc, word.bytes.as_slice())?, rest))
-        }
-        _ => Err(Unread::Grammar),
-    }
-}
-
-/// The number that stands first.
-#[tactic(auto, unfolding(crate::specs::Reading::number_at))]
-pub fn number(words: &[Word]) -> Option<(u32, &[Word])>
-    ensures { MatchOption result (number_at words.now ≡ None) (λ x. number_at words.now ≡ Some (x.0, x.1.now)) }
-{
-    let (word, rest) = words.split_first()?;
-    let n = spelling::number(word.bytes.as_slice())?;
-    Some((n, rest))
-}
 
 /// Whether a minus stands first, and the words behind the sign.
 #[tactic(auto, unfolding(crate::specs::Reading::sign_at))]
@@ -88,7 +54,11 @@ pub fn term(alloc: Global, words: &[Word], is_first: bool) -> Result<(WrittenTer
 }
 
 /// A term that was read, and the terms that stand behind it, as far as they go.
-pub fn more_terms(alloc: Global, first: WrittenTerm, words: &[Word]) -> Result<(List<WrittenTerm>, &[Word]), Memory>
+pub fn more_terms(
+    alloc: Global,
+    first: WrittenTerm,
+    words: &[Word],
+) -> Result<(List<WrittenTerm>, &[Word]), Memory>
     ensures { IfOk result (λ x. more_terms_at first words.now ≡ (x.0, x.1.now)) }
 {
     let mut terms = List::new(alloc);

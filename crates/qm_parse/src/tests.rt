@@ -1,7 +1,8 @@
 use super::*;
 use std::test::Fail;
 
-const WHOLE: &[u8] = b"MAXIMIZE 2 x + y - 007 z\nSUBJECT TO\nx + 3 y <= 5\n- z <= - 12\nBINARIES x y\nEXISTS x ALL y\nORDER x y z END\n";
+const WHOLE: &[u8] =
+    b"MAXIMIZE 2 x + y - 007 z\nSUBJECT TO\nx + 3 y <= 5\n- z <= - 12\nBINARIES x y\nEXISTS x ALL y\nORDER x y z END\n";
 
 #[test]
 fn reads_a_whole_text(rt: HostRuntime) -> Result<(), Fail> {
@@ -28,9 +29,18 @@ fn tells_small_texts_from_others(rt: HostRuntime) -> Result<(), Fail> {
     let table: [(&[u8], bool); 18] = [
         (b"MAXIMIZE SUBJECT TO BINARIES ORDER END", true),
         (b"MAXIMIZE SUBJECT TO BINARIES EXISTS ALL ORDER END", true),
-        (b"\n MAXIMIZE - x SUBJECT TO x <= 1\nBINARIES ORDER END ", true),
-        (b"MAXIMIZE SUBJECT TO x <= 999999 \n BINARIES ORDER END", true),
-        (b"MAXIMIZE SUBJECT TO x <= 1000000\nBINARIES ORDER END", false),
+        (
+            b"\n MAXIMIZE - x SUBJECT TO x <= 1\nBINARIES ORDER END ",
+            true,
+        ),
+        (
+            b"MAXIMIZE SUBJECT TO x <= 999999 \n BINARIES ORDER END",
+            true,
+        ),
+        (
+            b"MAXIMIZE SUBJECT TO x <= 1000000\nBINARIES ORDER END",
+            false,
+        ),
         (b"MAXIMIZE\tSUBJECT TO BINARIES ORDER END", false),
         (b"MAXIMIZE SUBJECT TO BINARIES ORDER END\r\n", false),
         (b"maximize SUBJECT TO BINARIES ORDER END", false),

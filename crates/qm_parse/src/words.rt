@@ -34,7 +34,7 @@ fn without_blanks(text: &[u8]) -> (bool, &[u8])
 {
     let mut after_line = false;
     for (i, byte) in text.iter().enumerate() {
-        if !blank(*byte) {
+        if !is_blank(*byte) {
             return (after_line, &text[i..]);
         }
         after_line |= *byte == b'\n';
@@ -49,14 +49,14 @@ fn split_word(text: &[u8]) -> (&[u8], &[u8])
     ensures shorter { length result.1.now < length text.now }
 {
     for (i, byte) in text.iter().enumerate() {
-        if blank(*byte) {
+        if is_blank(*byte) {
             return text.split_at(i);
         }
     }
     (text, &[])
 }
 
-fn blank(byte: u8) -> bool
+fn is_blank(byte: u8) -> bool
     ensures { result ≡ is_blank byte }
 {
     byte == b' ' || byte == b'\n'

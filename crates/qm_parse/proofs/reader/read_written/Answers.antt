@@ -1,9 +1,9 @@
-use Rattle.std.proofs.Common.{◌≡◌, Some, sym, ap, subst, ◌∙◌}
-use Rattle.qm_parse.specs.Grammar.{Spells, SmallText}
+use Rattle.std.proofs.Common.{sym, ap, ◌∙◌}
+use Rattle.qm_parse.specs.Grammar.{Spells}
 use Rattle.qm_parse.specs.Reading.{small_text_at}
 use Rattle.qm_parse.specs.Words.{words}
-use Rattle.qm_parse.proofs.Again.{small_text_again}
-use Rattle.qm_parse.proofs.Takes.{small_text_takes}
+use Rattle.qm_parse.proofs.WrittenIsRead.{small_text_again}
+use Rattle.qm_parse.proofs.ReadIsWritten.{small_text_takes}
 use Rattle.qm_parse.proofs.reader.read_written.Goals as goal
 
 pub returns-in-Ok-clause-some : goal.returns-in-Ok-clause-some

@@ -1,4 +1,4 @@
-use Rattle.std.proofs.Common.{◌≡◌, false, length}
+use Rattle.std.proofs.Common.{◌≡◌, length}
 use Rattle.qm_parse.specs.Reading.{each_at, name_at}
 use Rattle.qm_parse.proofs.Items.{with_front}
 use Rattle.qm_parse.proofs.sections.names.Given as goal

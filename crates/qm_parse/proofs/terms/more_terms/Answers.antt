@@ -1,5 +1,5 @@
 use Rattle.std.proofs.Common.{false, refl}
-use Rattle.qm_parse.specs.Reading.{each_at, term_at, more_terms_at}
+use Rattle.qm_parse.specs.Reading.{term_at, more_terms_at}
 use Rattle.qm_parse.proofs.Items.{each_at-step, each_at-end}
 use Rattle.qm_parse.proofs.Shrinks.{term_at-shrinks}
 use Rattle.qm_parse.proofs.terms.more_terms.Goals as goal

@@ -1,6 +1,6 @@
 -- What is written so is read: the grammar, and the readers on lists.
-use Rattle.std.proofs.Common.{◌≡◌, ◌≢◌, ℕ, ℤ, pos, Bool, true, false, cond, not, ◌&&◌, ◌⊎◌, List, [], ◌∷◌, length, Option, Some, None, inl, inr, refl, sym, ap, subst, ◌∙◌, arith}
-use Rattle.std.specs.Prelude.{codes, neg_ℤ}
+use Rattle.std.proofs.Common.{◌≡◌, ℕ, ℤ, Bool, true, false, cond, not, ◌&&◌, List, [], ◌∷◌, Option, Some, None, inl, inr, refl, sym, ap, subst, ◌∙◌, arith}
+use Rattle.std.specs.Prelude.{codes}
 use Rattle.std.specs.Char.{is_ascii_alphabetic, is_ascii_digit}
 use Rattle.std.specs.Str.{bytes_eq}
 use Rattle.std.proofs.lemmas.Bool.{cases_Bool}
@@ -10,9 +10,9 @@ use Rattle.qm_parse.specs.declared.words.Word.{Word}
 use Rattle.qm_parse.specs.declared.written.Written.{Written}
 use Rattle.qm_parse.specs.declared.written.WrittenRow.{WrittenRow}
 use Rattle.qm_parse.specs.declared.written.WrittenTerm.{WrittenTerm}
-use Rattle.qm_parse.specs.Spelling.{is_identifier, is_name, is_number, is_reserved, reserved, value_of}
+use Rattle.qm_parse.specs.Spelling.{is_identifier, is_name, is_number, is_reserved, reserved}
 use Rattle.qm_parse.specs.Grammar.{Each, Literal, Name, Number, NewLine, Sign, Factor, Term, Terms, Right, Row, Objective, Rows, Names, OptionalNames, SmallText}
-use Rattle.qm_parse.specs.Reading.{◌>>=◌, each_at, literal_at, name_at, number_at, new_line_at, sign_at, factor_at, term_at, more_terms_at, terms_at, right_at, row_at, objective_at, rows_at, names_at, optional_names_at, is_nothing, is_end, small_text_at}
+use Rattle.qm_parse.specs.Reading.{each_at, literal_at, name_at, number_at, new_line_at, sign_at, factor_at, term_at, more_terms_at, terms_at, right_at, row_at, objective_at, rows_at, names_at, optional_names_at, is_end, small_text_at}
 use Rattle.qm_parse.proofs.Items.{Shrinks, with_front, each_at-none, each_at-some}
 use Rattle.qm_parse.proofs.Shrinks.{name_at-shrinks, term_at-shrinks, row_at-shrinks}
 use Rattle.qm_parse.proofs.Steps.{sign_minus, sign_plus, sign_none, factor_some, factor_none, terms_some, terms_none, right_minus, right_plain, optional_names_some, optional_names_none, end_some}
@@ -314,7 +314,7 @@ unfolding small_text_at
 small_text_again ws written (a, objective, (b, rows, (c, binaries, (d, exists, (e, universal, (f, order, end)))))) =
     let no_name_d = no_name_behind_exists written d e f universal order in
     let no_name_c : name_at c ≡ None =
-      optional_names_begin (λ vs. name_at vs ≡ None) (codes "EXISTS") written.exists c d exists (λ behind p. no_name_at (codes "EXISTS") c behind exists_no_name p) no_name_d in
+    optional_names_begin (λ vs. name_at vs ≡ None) (codes "EXISTS") written.exists c d exists (λ behind p. no_name_at (codes "EXISTS") c behind exists_no_name p) no_name_d in
     rw (
       objective_again written.objective ws a objective (λ is_first. no_term_at (codes "SUBJECT") subject_no_term is_first a rows.0 rows.1),
       rows_again written.rows a b rows (no_row_at b (no_term_at (codes "BINARIES") binaries_no_term true b binaries.0 binaries.1)),

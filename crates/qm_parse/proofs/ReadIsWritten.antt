@@ -51,14 +51,14 @@ sign_takes : (is_first : Bool) (ws : List Word) (x : Bool × List Word) → sign
 sign_takes is_first ws x e =
     elim (option_cases (literal_at (codes "-") ws)) [
       | inr minus ↦
-        subst (λ (y : Bool × List Word). Sign is_first y.0 ws y.1) (some_is (true, minus.0) x (sym (sign_minus is_first ws minus.0 minus.1) ∙ e)) (literal_takes (codes "-") ws minus.0 minus.1)
+          subst (λ (y : Bool × List Word). Sign is_first y.0 ws y.1) (some_is (true, minus.0) x (sym (sign_minus is_first ws minus.0 minus.1) ∙ e)) (literal_takes (codes "-") ws minus.0 minus.1)
       | inl no_minus ↦
-        elim (option_cases (literal_at (codes "+") ws)) [
-          | inr plus ↦
-            subst (λ (y : Bool × List Word). Sign is_first y.0 ws y.1) (some_is (false, plus.0) x (sym (sign_plus is_first ws plus.0 no_minus plus.1) ∙ e))
-            (sign_plus_takes is_first ws plus.0 (literal_takes (codes "+") ws plus.0 plus.1))
-          | inl no_plus ↦ sign_none_takes is_first ws x (sym (sign_none is_first ws no_minus no_plus) ∙ e)
-        ]
+          elim (option_cases (literal_at (codes "+") ws)) [
+            | inr plus ↦
+                subst (λ (y : Bool × List Word). Sign is_first y.0 ws y.1) (some_is (false, plus.0) x (sym (sign_plus is_first ws plus.0 no_minus plus.1) ∙ e))
+                (sign_plus_takes is_first ws plus.0 (literal_takes (codes "+") ws plus.0 plus.1))
+            | inl no_plus ↦ sign_none_takes is_first ws x (sym (sign_none is_first ws no_minus no_plus) ∙ e)
+          ]
     ]
 
 factor_takes : (ws : List Word) → Factor (factor_at ws).0 ws (factor_at ws).1
@@ -109,19 +109,19 @@ right_takes : (ws : List Word) (x : ℤ × List Word) → right_at ws ≡ Some x
 right_takes ws x e =
     elim (option_cases (literal_at (codes "-") ws)) [
       | inr minus ↦
-        elim (option_cases (number_at minus.0)) [
-          | inr n ↦
-            let is : (neg_ℤ (pos n.0.0), n.0.1) ≡ x = some_is _ x (sym (right_minus ws minus.0 n.0 minus.1 n.1) ∙ e) in
-            subst (λ (y : ℤ × List Word). Right y.0 ws y.1) is (n.0.0, inr (refl, (minus.0, literal_takes (codes "-") ws minus.0 minus.1, number_takes minus.0 n.0 n.1)))
-          | inl none ↦ let gone = right_minus_none ws minus.0 minus.1 none in absurd cc
-        ]
+          elim (option_cases (number_at minus.0)) [
+            | inr n ↦
+                let is : (neg_ℤ (pos n.0.0), n.0.1) ≡ x = some_is _ x (sym (right_minus ws minus.0 n.0 minus.1 n.1) ∙ e) in
+                subst (λ (y : ℤ × List Word). Right y.0 ws y.1) is (n.0.0, inr (refl, (minus.0, literal_takes (codes "-") ws minus.0 minus.1, number_takes minus.0 n.0 n.1)))
+            | inl none ↦ let gone = right_minus_none ws minus.0 minus.1 none in absurd cc
+          ]
       | inl no_minus ↦
-        elim (option_cases (number_at ws)) [
-          | inr n ↦
-            let is : (pos n.0.0, n.0.1) ≡ x = some_is _ x (sym (right_plain ws n.0 no_minus n.1) ∙ e) in
-            subst (λ (y : ℤ × List Word). Right y.0 ws y.1) is (n.0.0, inl (refl, number_takes ws n.0 n.1))
-          | inl none ↦ let gone = right_plain_none ws no_minus none in absurd cc
-        ]
+          elim (option_cases (number_at ws)) [
+            | inr n ↦
+                let is : (pos n.0.0, n.0.1) ≡ x = some_is _ x (sym (right_plain ws n.0 no_minus n.1) ∙ e) in
+                subst (λ (y : ℤ × List Word). Right y.0 ws y.1) is (n.0.0, inl (refl, number_takes ws n.0 n.1))
+            | inl none ↦ let gone = right_plain_none ws no_minus none in absurd cc
+          ]
     ]
 
 more_terms_some : (first : WrittenTerm) (ws : List Word) → (more_terms_at first ws).0 ≡ [] → ⊥
@@ -176,8 +176,8 @@ end_takes ws e =
     elim (option_cases (literal_at (codes "END") ws)) [
       | inl none ↦ let no = end_none ws none in absurd cc
       | inr rest ↦
-        let empty = nothing_is rest.0 (sym (end_some ws rest.0 rest.1) ∙ e) in
-        literal_takes (codes "END") ws [] (rest.1 ∙ ap (λ (r : List Word). Some r) empty)
+          let empty = nothing_is rest.0 (sym (end_some ws rest.0 rest.1) ∙ e) in
+          literal_takes (codes "END") ws [] (rest.1 ∙ ap (λ (r : List Word). Some r) empty)
     ]
 
 pub small_text_takes : (ws : List Word) (written : Written) → small_text_at ws ≡ Some written → SmallText written ws []
@@ -191,10 +191,24 @@ small_text_takes ws written e =
     let order = bind_some (names_at (codes "ORDER") universal.1) (text_ordered objective.0.0 rows.0.0 binaries.0) written binaries.2 in
     let made : Written = record { objective = objective.0.0; rows = rows.0.0; binaries = binaries.0.0; exists = exists.0; universal = universal.0; order = order.0.0 } in
     let last = test_some (is_end order.0.1) made written order.2 in
-    subst (λ (w : Written). SmallText w ws []) last.1
-    (objective.0.1, objective_takes ws objective.0 objective.1,
-      (rows.0.1, rows_take objective.0.1 rows.0 rows.1,
-        (binaries.0.1, names_take (codes "BINARIES") rows.0.1 binaries.0 binaries.1,
-          (exists.1, optional_names_take (codes "EXISTS") binaries.0.1,
-            (universal.1, optional_names_take (codes "ALL") exists.1,
-              (order.0.1, names_take (codes "ORDER") universal.1 order.0 order.1, end_takes order.0.1 last.0))))))
+    subst (λ (w : Written). SmallText w ws []) last.1 (
+      objective.0.1,
+      objective_takes ws objective.0 objective.1,
+      (
+        rows.0.1,
+        rows_take objective.0.1 rows.0 rows.1,
+        (
+          binaries.0.1,
+          names_take (codes "BINARIES") rows.0.1 binaries.0 binaries.1,
+          (
+            exists.1,
+            optional_names_take (codes "EXISTS") binaries.0.1,
+            (
+              universal.1,
+              optional_names_take (codes "ALL") exists.1,
+              (order.0.1, names_take (codes "ORDER") universal.1 order.0 order.1, end_takes order.0.1 last.0),
+            ),
+          ),
+        ),
+      ),
+    )
