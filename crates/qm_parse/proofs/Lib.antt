@@ -1,3 +1,9 @@
+pub mod Items
+pub mod ReadIsWritten
+pub mod Shrinks
+pub mod Steps
+pub mod TextWords
+pub mod WrittenIsRead
 pub mod Standing
 pub mod Fitting
 pub mod Totals
@@ -5,3 +11,4 @@ pub mod Nonzero
 pub mod Counting
 pub mod Soundness
 pub mod Making
+pub mod SmallTexts
