@@ -14,6 +14,7 @@ pub mod Quotients
 pub mod Over
 pub mod Sums
 pub mod Totals
+pub mod Pieces
 pub mod Combinations
 pub mod Rows
 pub mod Pivots

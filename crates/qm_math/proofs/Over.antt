@@ -46,7 +46,7 @@ over_step d m n t e =
     ((x2, x3 ⊗ x2, x1 ⊗ x4) ∷ []) (e, tt) refl
 
 pub total_of-over : {A : Type 0} (d : ℕ) (f : A → ℤ) (xs : List A) → IsSame (total_of (λ x. over d (f x)) xs) (over d (sum_of_each f xs))
-total_of-over d f [] = refl
+total_of-over d f [] = omega (arith, ints)
 total_of-over d f (x ∷ xs) = over_step d (f x) (sum_of_each f xs) (total_of (λ x. over d (f x)) xs) (total_of-over d f xs)
 
 -- ---- any fractions over their common denominator

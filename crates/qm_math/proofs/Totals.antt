@@ -1,15 +1,16 @@
 -- Sums of fractions over lists.
-use Rattle.std.proofs.Common.{◌≡◌, refl, ap, ◌<◌, List, [], ◌∷◌, ◌++◌, map, get_or, All, ℤ, pos, ◌+ℤ◌}
+use Rattle.std.proofs.Common.{◌≡◌, refl, ap, ◌<◌, arith, List, [], ◌∷◌, ◌++◌, map, get_or, All, ℤ, pos, ◌+ℤ◌}
 use Rattle.std.proofs.lemmas.List.Elements.{All-head, All-tail}
 use Rattle.qm_math.specs.Fraction.{Fraction, whole, IsSame, IsAtMost}
-use Rattle.qm_math.specs.Arithmetic.{sum_of, negated, product_of}
+use Rattle.qm_math.specs.Arithmetic.{sum_of, negated, difference_of, product_of}
 use Rattle.qm_math.specs.Sums.{sum_of_each}
 use Rattle.qm_math.specs.Totals.{total_of}
 use Rattle.qm_math.proofs.Polynomials.{number, ◌⊕◌, ◌⊗◌, minus}
 use Rattle.qm_math.proofs.Ring.{x0, x1, x2, x3, x4}
-use Rattle.qm_math.proofs.FractionRing.{den_of, same_from}
+use Rattle.qm_math.proofs.FractionRing.{den_of, same_by_ring, same_from}
+use Rattle.qm_math.proofs.Compare.{at_most_trans}
 use Rattle.qm_math.proofs.FractionLaws.{same_refl, same_sym, same_trans, sum_of-same, sum_of_den, product_of_den, product_of_comm, product_of-zero, zero-sum_of, sum_of-whole, whole_den}
-use Rattle.qm_math.proofs.FractionOrder.{at_most_refl, sum_of-at_most}
+use Rattle.qm_math.proofs.FractionOrder.{at_most_refl, at_most-same, sum_of-at_most}
 
 -- ---- one step of a sum, from what is known of the rest; none of these asks anything of the denominators
 pub append_step : (a t u v : Fraction) → IsSame t (sum_of u v) → IsSame (sum_of a t) (sum_of (sum_of a u) v)
@@ -120,3 +121,22 @@ total_of_exchange f (x ∷ xs) ys h =
     (sum_of-same first rest first turned (same_refl first) (total_of_exchange f xs ys later))
     (same_sym (total_of (λ y. sum_of (f x y) (total_of (λ z. f z y) xs)) ys) (sum_of first turned)
     (total_of-sum_of (f x) (λ y. total_of (λ z. f z y) xs) ys))
+
+-- a sum of numbers that are not negative
+pub total_of-nonneg : {A : Type 0} (f : A → Fraction) (xs : List A) → All (λ x. IsAtMost (whole (pos 0)) (f x)) xs → IsAtMost (whole (pos 0)) (total_of f xs)
+total_of-nonneg f xs h =
+    at_most_trans (whole (pos 0)) (total_of (λ x. whole (pos 0)) xs) (total_of f xs)
+    (total_of_den (λ x. whole (pos 0)) xs (λ i d below. whole_den (pos 0)))
+    (at_most-same (whole (pos 0)) (total_of (λ x. whole (pos 0)) xs) (same_sym (total_of (λ x. whole (pos 0)) xs) (whole (pos 0)) (total_of-zero xs)))
+    (total_of-at_most (λ x. whole (pos 0)) f xs h)
+
+-- a sum of differences
+pub total_of-difference_of : {A : Type 0} (f g : A → Fraction) (xs : List A)
+    → IsSame (total_of (λ x. difference_of (f x) (g x)) xs) (difference_of (total_of f xs) (total_of g xs))
+total_of-difference_of f g [] = same_by_ring [] (number (pos 0)) (number (pos 0) ⊕ minus (number (pos 0))) refl
+total_of-difference_of f g (x ∷ xs) =
+    difference_step (f x) (g x) (total_of (λ z. difference_of (f z) (g z)) xs) (total_of f xs) (total_of g xs) (total_of-difference_of f g xs)
+  where
+  difference_step : (a b t u v : Fraction) → IsSame t (difference_of u v) → IsSame (sum_of (difference_of a b) t) (difference_of (sum_of a u) (sum_of b v))
+  difference_step a b t u v e =
+      same_from (a ∷ b ∷ t ∷ u ∷ v ∷ []) (x0 ⊕ minus x1 ⊕ x2) (x0 ⊕ x3 ⊕ minus (x1 ⊕ x4)) ((den_of (x0 ⊗ x0 ⊗ x1 ⊗ x1), x2, x3 ⊕ minus x4) ∷ []) (e, tt) refl
