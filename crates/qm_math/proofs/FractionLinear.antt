@@ -6,7 +6,7 @@ use Rattle.std.proofs.Common.{◌≡◌, refl, sym, ℕ, zero, suc, ◌<◌, ari
 use Rattle.qm_math.specs.Fraction.{Fraction, whole, IsSame, IsAtMost, IsBelow}
 use Rattle.qm_math.specs.Arithmetic.{sum_of, product_of}
 use Rattle.qm_math.proofs.Polynomials.{Expression, item, number, ◌⊕◌, ◌⊗◌, minus, normal}
-use Rattle.qm_math.proofs.Ring.{Known, lefts, rights}
+use Rattle.qm_math.proofs.Ring.{Known, Order, lefts, rights, lessers, greaters}
 use Rattle.qm_math.proofs.FractionRing.{fraction_value, pick_fraction, num_of, den_of, same_by_ring, AllSame}
 use Rattle.qm_math.proofs.FractionLaws.{same_refl, whole_den, sum_of_den, product_of_den, negated_den, sum_of-same, product_of-same}
 use Rattle.qm_math.proofs.Compare.{at_most_both}
@@ -17,22 +17,10 @@ abbrev pub AllPositive : List Fraction → Type 0
 AllPositive [] = Unit {0}
 AllPositive (x ∷ items) = (0 < x.den) × AllPositive items
 
--- the lesser and the greater side of a known order
-abbrev pub Order : Type 0
-Order = Expression × Expression
-
 -- each known order holds
 abbrev pub AllAtMost : List Fraction → List Order → Type 0
 AllAtMost items [] = Unit {0}
 AllAtMost items (o ∷ orders) = IsAtMost (fraction_value items o.0) (fraction_value items o.1) × AllAtMost items orders
-
-abbrev pub lessers : List Order → Expression
-lessers [] = number (pos 0)
-lessers (o ∷ orders) = o.0 ⊕ lessers orders
-
-abbrev pub greaters : List Order → Expression
-greaters [] = number (pos 0)
-greaters (o ∷ orders) = o.1 ⊕ greaters orders
 
 pick_den_pos : (items : List Fraction) (n : ℕ) → AllPositive items → 0 < (pick_fraction items n).den
 pick_den_pos [] n h = omega arith

@@ -16,6 +16,7 @@ pub mod Sums
 pub mod Totals
 pub mod Pieces
 pub mod Combinations
+pub mod WholeRows
 pub mod Rows
 pub mod Pivots
 pub mod Ends

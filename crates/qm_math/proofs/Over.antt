@@ -1,5 +1,5 @@
 -- Fractions over one denominator are added, scaled and compared by their numerators.
-use Rattle.std.proofs.Common.{◌≡◌, ◌∙◌, sym, refl, ap, ℕ, ◌*◌, ◌<◌, ◌↔◌, arith, mul-pos, List, [], ◌∷◌, map, length, get_or, All, ℤ, pos, ◌+ℤ◌, ◌*ℤ◌, ◌≤ℤ◌, ◌<ℤ◌}
+use Rattle.std.proofs.Common.{refl, ℕ, ◌*◌, ◌<◌, ◌↔◌, arith, mul-pos, List, [], ◌∷◌, map, All, ℤ, pos, ◌+ℤ◌, ◌*ℤ◌, ◌≤ℤ◌, ◌<ℤ◌}
 use Rattle.std.specs.List.{AllZip}
 use Rattle.std.proofs.lemmas.List.Elements.{All-head, All-tail}
 use Rattle.std.proofs.lemmas.Int.{ints}
@@ -60,12 +60,13 @@ scaled_zip d k [] (x ∷ xs) h = absurd h
 scaled_zip d k (n ∷ ns) [] h = absurd h
 scaled_zip d k (n ∷ ns) (x ∷ xs) h = (scaled_same d k n x h.0, scaled_zip d k ns xs h.1)
   where
-  scaled_same : (d k : ℕ) (n : ℤ) (x : Fraction) → IsSame (over d n) x → IsSame (over (k * d) (n *ℤ pos k)) x
-  scaled_same d k n x e =
-      ring_from (n ∷ pos d ∷ pos k ∷ x.num ∷ pos x.den ∷ []) (x0 ⊗ x2 ⊗ x4) (x3 ⊗ (x2 ⊗ x1)) ((x2, x0 ⊗ x4, x3 ⊗ x1) ∷ []) (e, tt) refl
+    scaled_same : (d k : ℕ) (n : ℤ) (x : Fraction) → IsSame (over d n) x → IsSame (over (k * d) (n *ℤ pos k)) x
+    scaled_same d k n x e =
+        ring_from (n ∷ pos d ∷ pos k ∷ x.num ∷ pos x.den ∷ []) (x0 ⊗ x2 ⊗ x4) (x3 ⊗ (x2 ⊗ x1)) ((x2, x0 ⊗ x4, x3 ⊗ x1) ∷ []) (e, tt) refl
 
 pub common_nums-same : (xs : List Fraction) → AllZip IsSame (map (over (common_den xs)) (common_nums xs)) xs
 common_nums-same [] = tt
-common_nums-same (x ∷ xs) =
-    (ring (x.num ∷ pos x.den ∷ pos (common_den xs) ∷ []) (x0 ⊗ x2 ⊗ x1) (x0 ⊗ (x1 ⊗ x2)) refl,
-      scaled_zip (common_den xs) x.den (common_nums xs) xs (common_nums-same xs))
+common_nums-same (x ∷ xs) = (
+  ring (x.num ∷ pos x.den ∷ pos (common_den xs) ∷ []) (x0 ⊗ x2 ⊗ x1) (x0 ⊗ (x1 ⊗ x2)) refl,
+  scaled_zip (common_den xs) x.den (common_nums xs) xs (common_nums-same xs),
+)

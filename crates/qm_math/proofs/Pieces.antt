@@ -1,5 +1,5 @@
 -- Sums of fractions over a list that is cut, grows or has one item changed.
-use Rattle.std.proofs.Common.{◌≡◌, refl, ℕ, zero, suc, ◌<◌, arith, List, [], ◌∷◌, ◌++◌, length, take, get_or, set, pos}
+use Rattle.std.proofs.Common.{refl, ℕ, zero, suc, ◌<◌, arith, List, [], ◌∷◌, ◌++◌, length, take, get_or, set, pos}
 use Rattle.qm_math.specs.Fraction.{Fraction, whole, IsSame}
 use Rattle.qm_math.specs.Arithmetic.{sum_of}
 use Rattle.qm_math.specs.Totals.{total_of}

@@ -1,10 +1,10 @@
 -- Orders of fractions divided by a number of known sign.
-use Rattle.std.proofs.Common.{⊎_elim, ◌≡◌, ◌∙◌, sym, refl, ap, ℕ, suc, ◌<◌, ◌≢◌, ◌↔◌, arith, List, [], ◌∷◌, ℤ, pos, negsuc, ◌*ℤ◌, ◌≤ℤ◌, ◌<ℤ◌}
+use Rattle.std.proofs.Common.{⊎_elim, ◌<◌, ◌≢◌, ◌↔◌, arith, pos}
 use Rattle.std.proofs.lemmas.Int.{ints}
 use Rattle.qm_math.specs.Fraction.{Fraction, whole, IsSame, IsAtMost, IsBelow}
-use Rattle.qm_math.specs.Arithmetic.{negated, product_of, inverse_of, quotient_of}
+use Rattle.qm_math.specs.Arithmetic.{negated, product_of, quotient_of}
 use Rattle.qm_math.proofs.Compare.{at_most_trans}
-use Rattle.qm_math.proofs.FractionLaws.{negated_den, negated-product_of, same_sym, same_trans, product_of_den, quotient_of_den, inverse_of_den, product_of-quotient_of}
+use Rattle.qm_math.proofs.FractionLaws.{negated_den, negated-product_of, same_sym, product_of_den, quotient_of_den, product_of-quotient_of}
 use Rattle.qm_math.proofs.FractionOrder.{at_most_congr, negated-at_most, at_most-same, product_of-at_most, product_of-at_most_turned, product_of-below, not_at_most_below}
 use Rattle.qm_math.proofs.Compare.{at_most_or_below, below_at_most_weak}
 
@@ -30,11 +30,12 @@ pub at_most-quotient_of : (k x b : Fraction) → 0 < k.den → 0 < x.den → 0 <
 at_most-quotient_of k x b hk hx hb more =
     let q = quotient_of b k in
     let q_den = quotient_of_den b k hb (above_num k more) in
-    let back : IsSame (product_of k q) b = dividing k b hk hb (above_num k more) in
-    (λ h. cancel_product_of-at_most k x q hk more
-      (at_most_trans (product_of k x) b (product_of k q) hb h (at_most-same b (product_of k q) (same_sym (product_of k q) b back))),
-    λ h. at_most_trans (product_of k x) (product_of k q) b (product_of_den k q hk q_den)
-      (product_of-at_most k x q (below_at_most_weak (whole (pos 0)) k more) h) (at_most-same (product_of k q) b back))
+    let back : IsSame (product_of k q) b = dividing k b hk hb (above_num k more) in (
+      λ h. cancel_product_of-at_most k x q hk more
+          (at_most_trans (product_of k x) b (product_of k q) hb h (at_most-same b (product_of k q) (same_sym (product_of k q) b back))),
+      λ h. at_most_trans (product_of k x) (product_of k q) b (product_of_den k q hk q_den)
+          (product_of-at_most k x q (below_at_most_weak (whole (pos 0)) k more) h) (at_most-same (product_of k q) b back),
+    )
 
 -- b ≤ k x, for a positive k
 pub quotient_of-at_most : (k x b : Fraction) → 0 < k.den → 0 < x.den → 0 < b.den → IsBelow (whole (pos 0)) k
@@ -42,12 +43,13 @@ pub quotient_of-at_most : (k x b : Fraction) → 0 < k.den → 0 < x.den → 0 <
 quotient_of-at_most k x b hk hx hb more =
     let q = quotient_of b k in
     let q_den = quotient_of_den b k hb (above_num k more) in
-    let back : IsSame (product_of k q) b = dividing k b hk hb (above_num k more) in
-    (λ h. cancel_product_of-at_most k q x hk more
-      (at_most_trans (product_of k q) b (product_of k x) hb (at_most-same (product_of k q) b back) h),
-    λ h. at_most_trans b (product_of k q) (product_of k x) (product_of_den k q hk q_den)
-      (at_most-same b (product_of k q) (same_sym (product_of k q) b back))
-      (product_of-at_most k q x (below_at_most_weak (whole (pos 0)) k more) h))
+    let back : IsSame (product_of k q) b = dividing k b hk hb (above_num k more) in (
+      λ h. cancel_product_of-at_most k q x hk more
+          (at_most_trans (product_of k q) b (product_of k x) hb (at_most-same (product_of k q) b back) h),
+      λ h. at_most_trans b (product_of k q) (product_of k x) (product_of_den k q hk q_den)
+          (at_most-same b (product_of k q) (same_sym (product_of k q) b back))
+          (product_of-at_most k q x (below_at_most_weak (whole (pos 0)) k more) h),
+    )
 
 -- ---- negative factors turn the order round
 pub negated_above : (k : Fraction) → IsBelow k (whole (pos 0)) → IsBelow (whole (pos 0)) (negated k)
@@ -59,10 +61,10 @@ pub cancel_product_of-at_most_turned : (k a b : Fraction) → 0 < k.den → 0 < 
 cancel_product_of-at_most_turned k a b hk ha hb less h =
     cancel_product_of-at_most (negated k) b a (negated_den k hk) (negated_above k less)
     (at_most_congr (negated (product_of k b)) (negated (product_of k a)) (product_of (negated k) b) (product_of (negated k) a)
-      (negated_den (product_of k b) (product_of_den k b hk hb)) (negated_den (product_of k a) (product_of_den k a hk ha))
-      (same_sym (product_of (negated k) b) (negated (product_of k b)) (negated-product_of k b))
-      (same_sym (product_of (negated k) a) (negated (product_of k a)) (negated-product_of k a))
-      (negated-at_most (product_of k a) (product_of k b) h))
+    (negated_den (product_of k b) (product_of_den k b hk hb)) (negated_den (product_of k a) (product_of_den k a hk ha))
+    (same_sym (product_of (negated k) b) (negated (product_of k b)) (negated-product_of k b))
+    (same_sym (product_of (negated k) a) (negated (product_of k a)) (negated-product_of k a))
+    (negated-at_most (product_of k a) (product_of k b) h))
 
 -- k x ≤ b, for a negative k
 pub at_most-quotient_of_turned : (k x b : Fraction) → 0 < k.den → 0 < x.den → 0 < b.den → IsBelow k (whole (pos 0))
@@ -70,11 +72,12 @@ pub at_most-quotient_of_turned : (k x b : Fraction) → 0 < k.den → 0 < x.den 
 at_most-quotient_of_turned k x b hk hx hb less =
     let q = quotient_of b k in
     let q_den = quotient_of_den b k hb (below_num k less) in
-    let back : IsSame (product_of k q) b = dividing k b hk hb (below_num k less) in
-    (λ h. cancel_product_of-at_most_turned k x q hk hx q_den less
-      (at_most_trans (product_of k x) b (product_of k q) hb h (at_most-same b (product_of k q) (same_sym (product_of k q) b back))),
-    λ h. at_most_trans (product_of k x) (product_of k q) b (product_of_den k q hk q_den)
-      (product_of-at_most_turned k q x (below_at_most_weak k (whole (pos 0)) less) h) (at_most-same (product_of k q) b back))
+    let back : IsSame (product_of k q) b = dividing k b hk hb (below_num k less) in (
+      λ h. cancel_product_of-at_most_turned k x q hk hx q_den less
+          (at_most_trans (product_of k x) b (product_of k q) hb h (at_most-same b (product_of k q) (same_sym (product_of k q) b back))),
+      λ h. at_most_trans (product_of k x) (product_of k q) b (product_of_den k q hk q_den)
+          (product_of-at_most_turned k q x (below_at_most_weak k (whole (pos 0)) less) h) (at_most-same (product_of k q) b back),
+    )
 
 -- b ≤ k x, for a negative k
 pub quotient_of-at_most_turned : (k x b : Fraction) → 0 < k.den → 0 < x.den → 0 < b.den → IsBelow k (whole (pos 0))
@@ -82,9 +85,10 @@ pub quotient_of-at_most_turned : (k x b : Fraction) → 0 < k.den → 0 < x.den 
 quotient_of-at_most_turned k x b hk hx hb less =
     let q = quotient_of b k in
     let q_den = quotient_of_den b k hb (below_num k less) in
-    let back : IsSame (product_of k q) b = dividing k b hk hb (below_num k less) in
-    (λ h. cancel_product_of-at_most_turned k q x hk q_den hx less
-      (at_most_trans (product_of k q) b (product_of k x) hb (at_most-same (product_of k q) b back) h),
-    λ h. at_most_trans b (product_of k q) (product_of k x) (product_of_den k q hk q_den)
-      (at_most-same b (product_of k q) (same_sym (product_of k q) b back))
-      (product_of-at_most_turned k x q (below_at_most_weak k (whole (pos 0)) less) h))
+    let back : IsSame (product_of k q) b = dividing k b hk hb (below_num k less) in (
+      λ h. cancel_product_of-at_most_turned k q x hk q_den hx less
+          (at_most_trans (product_of k q) b (product_of k x) hb (at_most-same (product_of k q) b back) h),
+      λ h. at_most_trans b (product_of k q) (product_of k x) (product_of_den k q hk q_den)
+          (at_most-same b (product_of k q) (same_sym (product_of k q) b back))
+          (product_of-at_most_turned k x q (below_at_most_weak k (whole (pos 0)) less) h),
+    )

@@ -72,6 +72,53 @@ ring_from items a b known h e =
     summed : (a b x y : ℤ) → a +ℤ y ≡ b +ℤ x → x ≡ y → a ≡ b
     summed a b x y e h = omega (arith, ints)
 
+-- ---- from known orders
+-- the lesser and the greater side of a known order
+abbrev pub Order : Type 0
+Order = Expression × Expression
+
+-- each known order holds
+abbrev pub AllLe : List ℤ → List Order → Type 0
+AllLe items [] = Unit {0}
+AllLe items (o ∷ orders) = (value items o.0 ≤ℤ value items o.1) × AllLe items orders
+
+abbrev pub lessers : List Order → Expression
+lessers [] = number (pos 0)
+lessers (o ∷ orders) = o.0 ⊕ lessers orders
+
+abbrev pub greaters : List Order → Expression
+greaters [] = number (pos 0)
+greaters (o ∷ orders) = o.1 ⊕ greaters orders
+
+lessers_le : (items : List ℤ) (orders : List Order) → AllLe items orders → value items (lessers orders) ≤ℤ value items (greaters orders)
+lessers_le items [] h = omega (arith, ints)
+lessers_le items (o ∷ orders) h =
+    le_sum (value items o.0) (value items o.1) (value items (lessers orders)) (value items (greaters orders)) h.0 (lessers_le items orders h.1)
+  where
+    le_sum : (a b c d : ℤ) → a ≤ℤ b → c ≤ℤ d → (a +ℤ c) ≤ℤ (b +ℤ d)
+    le_sum a b c d h k = omega (arith, ints)
+
+-- a is at most b if known equations and orders make up the difference
+pub le_from : (items : List ℤ) (a b : Expression) (known : List Known) (orders : List Order) → AllHold items known → AllLe items orders
+    → normal (b ⊕ (lefts known ⊕ lessers orders)) ≡ normal (a ⊕ (rights known ⊕ greaters orders)) → value items a ≤ℤ value items b
+le_from items a b known orders h o e =
+    summed (value items a) (value items b) (value items (lefts known)) (value items (rights known)) (value items (lessers orders)) (value items (greaters orders))
+    (ring items (b ⊕ (lefts known ⊕ lessers orders)) (a ⊕ (rights known ⊕ greaters orders)) e) (lefts_are_rights items known h) (lessers_le items orders o)
+  where
+    summed : (a b u v x y : ℤ) → b +ℤ (u +ℤ x) ≡ a +ℤ (v +ℤ y) → u ≡ v → x ≤ℤ y → a ≤ℤ b
+    summed a b u v x y e h o = omega (arith, ints)
+
+-- x below y is the one order known to be strict
+pub lt_from : (items : List ℤ) (a b x y : Expression) (known : List Known) (orders : List Order) → value items x <ℤ value items y → AllHold items known → AllLe items orders
+    → normal (b ⊕ (x ⊕ (lefts known ⊕ lessers orders))) ≡ normal (a ⊕ (y ⊕ (rights known ⊕ greaters orders))) → value items a <ℤ value items b
+lt_from items a b x y known orders strict h o e =
+    summed (value items a) (value items b) (value items (lefts known)) (value items (rights known)) (value items (lessers orders)) (value items (greaters orders))
+    (value items x) (value items y)
+    (ring items (b ⊕ (x ⊕ (lefts known ⊕ lessers orders))) (a ⊕ (y ⊕ (rights known ⊕ greaters orders))) e) (lefts_are_rights items known h) (lessers_le items orders o) strict
+  where
+    summed : (a b u v s t x y : ℤ) → b +ℤ (x +ℤ (u +ℤ s)) ≡ a +ℤ (y +ℤ (v +ℤ t)) → u ≡ v → s ≤ℤ t → x <ℤ y → a <ℤ b
+    summed a b u v s t x y e h o strict = omega (arith, ints)
+
 -- a is at most b if a known order x ≤ y makes up the difference
 pub ring_le : (items : List ℤ) (a b x y : Expression)
     → value items x ≤ℤ value items y → normal (b ⊕ x) ≡ normal (a ⊕ y) → value items a ≤ℤ value items b

@@ -1,5 +1,5 @@
 -- Sums of fractions over lists.
-use Rattle.std.proofs.Common.{◌≡◌, refl, ap, ◌<◌, arith, List, [], ◌∷◌, ◌++◌, map, get_or, All, ℤ, pos, ◌+ℤ◌}
+use Rattle.std.proofs.Common.{◌≡◌, refl, ap, ◌<◌, List, [], ◌∷◌, ◌++◌, map, get_or, All, ℤ, pos, ◌+ℤ◌}
 use Rattle.std.proofs.lemmas.List.Elements.{All-head, All-tail}
 use Rattle.qm_math.specs.Fraction.{Fraction, whole, IsSame, IsAtMost}
 use Rattle.qm_math.specs.Arithmetic.{sum_of, negated, difference_of, product_of}
@@ -137,6 +137,6 @@ total_of-difference_of f g [] = same_by_ring [] (number (pos 0)) (number (pos 0)
 total_of-difference_of f g (x ∷ xs) =
     difference_step (f x) (g x) (total_of (λ z. difference_of (f z) (g z)) xs) (total_of f xs) (total_of g xs) (total_of-difference_of f g xs)
   where
-  difference_step : (a b t u v : Fraction) → IsSame t (difference_of u v) → IsSame (sum_of (difference_of a b) t) (difference_of (sum_of a u) (sum_of b v))
-  difference_step a b t u v e =
-      same_from (a ∷ b ∷ t ∷ u ∷ v ∷ []) (x0 ⊕ minus x1 ⊕ x2) (x0 ⊕ x3 ⊕ minus (x1 ⊕ x4)) ((den_of (x0 ⊗ x0 ⊗ x1 ⊗ x1), x2, x3 ⊕ minus x4) ∷ []) (e, tt) refl
+    difference_step : (a b t u v : Fraction) → IsSame t (difference_of u v) → IsSame (sum_of (difference_of a b) t) (difference_of (sum_of a u) (sum_of b v))
+    difference_step a b t u v e =
+        same_from (a ∷ b ∷ t ∷ u ∷ v ∷ []) (x0 ⊕ minus x1 ⊕ x2) (x0 ⊕ x3 ⊕ minus (x1 ⊕ x4)) ((den_of (x0 ⊗ x0 ⊗ x1 ⊗ x1), x2, x3 ⊕ minus x4) ∷ []) (e, tt) refl

@@ -1,8 +1,10 @@
-ghost use Rattle.std.specs.Prelude.{◌≡◌, ℕ, ℤ, ◌+ℤ◌, ◌*ℤ◌, ◌≤ℤ◌, ◌++◌, List, All};
-ghost use Rattle.qm_math.specs.Fraction.{Fraction, HasPositiveDen, IsAtMost, IsSame};
+ghost use Rattle.std.specs.Prelude.{◌≡◌, ◌<◌, ◌↔◌, ℕ, ℤ, ◌+ℤ◌, ◌*ℤ◌, ◌≤ℤ◌, ◌++◌, List, map, All};
+ghost use Rattle.std.specs.List.{AllZip};
+ghost use Rattle.qm_math.specs.Fraction.{Fraction, HasPositiveDen, whole, IsAtMost, IsSame};
 ghost use Rattle.qm_math.specs.Arithmetic.{sum_of, product_of};
 ghost use Rattle.qm_math.specs.Sums.{sum_of_each};
 ghost use Rattle.qm_math.specs.Totals.{total_of};
+ghost use Rattle.qm_math.specs.Over.{over, common_den, common_nums};
 
 /// Sums of whole numbers over lists: of lists joined, of sums and multiples, in either order, and term by term.
 pub fn sums_of_whole_numbers()
@@ -36,4 +38,13 @@ pub fn the_sums_of_a_double_sum_exchange()
     ensures { (f : ℕ → ℕ → Fraction) (xs ys : List ℕ) →
         All (λ x. All (λ y. HasPositiveDen (f x y)) ys) xs →
         IsSame (total_of (λ x. total_of (f x) ys) xs) (total_of (λ y. total_of (λ x. f x y) xs) ys) }
+{}
+
+/// Fractions over one denominator are added and compared by their numerators, and any fractions have a common one.
+pub fn sums_over_one_denominator()
+    ensures sum { (d : ℕ) (f : ℕ → ℤ) (xs : List ℕ) →
+        IsSame (total_of (λ x. over d (f x)) xs) (over d (sum_of_each f xs)) }
+    ensures at_most { (d : ℕ) (m n : ℤ) → 0 < d → IsAtMost (over d m) (over d n) ↔ (m ≤ℤ n) }
+    ensures common { (xs : List Fraction) → AllZip IsSame (map (over (common_den xs)) (common_nums xs)) xs }
+    ensures positive { (xs : List Fraction) → All HasPositiveDen xs → 0 < common_den xs }
 {}

@@ -1,6 +1,6 @@
-ghost use Rattle.std.specs.Prelude.{pos};
+ghost use Rattle.std.specs.Prelude.{◌↔◌, pos};
 ghost use Rattle.qm_math.specs.Fraction.{Fraction, HasPositiveDen, whole, IsAtMost, IsBelow, IsSame};
-ghost use Rattle.qm_math.specs.Arithmetic.{sum_of, negated, product_of};
+ghost use Rattle.qm_math.specs.Arithmetic.{sum_of, negated, product_of, quotient_of};
 
 /// The order of fractions is transitive; sums and products with what is not negative keep it, negatives turn it round.
 pub fn orders_of_fractions_are_kept()
@@ -23,4 +23,16 @@ pub fn strict_orders_of_fractions_are_kept()
     ensures negative { (a b : Fraction) → IsBelow a b → IsBelow (negated b) (negated a) }
     ensures product { (k a b : Fraction) → HasPositiveDen k → IsBelow (whole (pos 0)) k → IsBelow a b →
         IsBelow (product_of k a) (product_of k b) }
+{}
+
+/// An order is divided by a positive number, and turned round by a negative one.
+pub fn orders_of_fractions_are_divided()
+    ensures above { (k x b : Fraction) → HasPositiveDen k → HasPositiveDen x → HasPositiveDen b →
+        IsBelow (whole (pos 0)) k → IsAtMost (product_of k x) b ↔ IsAtMost x (quotient_of b k) }
+    ensures below { (k x b : Fraction) → HasPositiveDen k → HasPositiveDen x → HasPositiveDen b →
+        IsBelow (whole (pos 0)) k → IsAtMost b (product_of k x) ↔ IsAtMost (quotient_of b k) x }
+    ensures above_turned { (k x b : Fraction) → HasPositiveDen k → HasPositiveDen x → HasPositiveDen b →
+        IsBelow k (whole (pos 0)) → IsAtMost (product_of k x) b ↔ IsAtMost (quotient_of b k) x }
+    ensures below_turned { (k x b : Fraction) → HasPositiveDen k → HasPositiveDen x → HasPositiveDen b →
+        IsBelow k (whole (pos 0)) → IsAtMost b (product_of k x) ↔ IsAtMost x (quotient_of b k) }
 {}

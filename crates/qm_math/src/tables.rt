@@ -1,7 +1,9 @@
-ghost use Rattle.std.specs.Prelude.{◌≡◌, ◌<◌, ℕ, pos, List, All, length, slice_index_or, slice_set};
+ghost use Rattle.std.specs.Prelude.{◌≡◌, ◌<◌, ℕ, ℤ, pos, List, All, length, slice_index_or, slice_set};
 ghost use Rattle.qm_math.specs.Fraction.{Fraction, HasPositiveDen, whole, IsAtMost, IsBelow, IsSame};
-ghost use Rattle.qm_math.specs.Arithmetic.{product_of};
+ghost use Rattle.qm_math.specs.Arithmetic.{difference_of, product_of};
+ghost use Rattle.qm_math.specs.Rounding.{IsFloor};
 ghost use Rattle.qm_math.specs.Totals.{total_of};
+ghost use Rattle.qm_math.specs.Over.{over};
 ghost use Rattle.qm_math.specs.Combinations.{value_at, combined_row};
 ghost use Rattle.qm_math.specs.Pivots.{row_value, pivoted_row, pivoted_constant};
 ghost use Rattle.qm_math.specs.Ends.{IsWithin, least_multiple};
@@ -46,4 +48,20 @@ pub fn a_pivot_keeps_every_row()
         IsSame y (row_value other others values) →
         IsSame (row_value (pivoted_constant constant factor other) (pivoted_row ks factor others c) (slice_set values c y))
         (row_value constant ks values) }
+{}
+
+/// A row of whole numbers at whole values is at most its bound rounded down.
+pub fn a_whole_row_is_rounded_down()
+    ensures { (columns : List ℕ) (k x : ℕ → ℤ) (r : Fraction) (n : ℤ) → IsFloor n r →
+        IsAtMost (value_at columns (λ c. whole (k c)) (λ c. whole (x c))) r →
+        IsAtMost (value_at columns (λ c. whole (k c)) (λ c. whole (x c))) (whole n) }
+{}
+
+/// What a pivot does to the number of a row in a column is linear in the row: t and p give the rows' numbers in the column
+/// and in the pivot column, the pivot row has r in the column, and g is 1 over its number in the pivot column.
+pub fn a_pivot_is_linear()
+    ensures { (rows : List ℕ) (y t p : ℕ → Fraction) (g r : Fraction) →
+        IsSame (difference_of (total_of (λ i. product_of (y i) (t i)) rows)
+        (product_of (product_of (total_of (λ i. product_of (y i) (p i)) rows) g) r))
+        (total_of (λ i. product_of (y i) (difference_of (t i) (product_of (product_of (p i) g) r))) rows) }
 {}
