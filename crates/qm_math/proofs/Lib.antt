@@ -19,6 +19,7 @@ pub mod Combinations
 pub mod WholeRows
 pub mod Rows
 pub mod Pivots
+pub mod Lexicographic
 pub mod Ends
 pub mod Refutes
 pub mod Distinct

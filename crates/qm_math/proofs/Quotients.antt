@@ -3,7 +3,7 @@ use Rattle.std.proofs.Common.{⊎_elim, ◌<◌, ◌≢◌, ◌↔◌, arith, po
 use Rattle.std.proofs.lemmas.Int.{ints}
 use Rattle.qm_math.specs.Fraction.{Fraction, whole, IsSame, IsAtMost, IsBelow}
 use Rattle.qm_math.specs.Arithmetic.{negated, product_of, quotient_of}
-use Rattle.qm_math.proofs.Compare.{at_most_trans}
+use Rattle.qm_math.proofs.Compare.{at_most_trans, at_most_both}
 use Rattle.qm_math.proofs.FractionLaws.{negated_den, negated-product_of, same_sym, product_of_den, quotient_of_den, product_of-quotient_of}
 use Rattle.qm_math.proofs.FractionOrder.{at_most_congr, negated-at_most, at_most-same, product_of-at_most, product_of-at_most_turned, product_of-below, not_at_most_below}
 use Rattle.qm_math.proofs.Compare.{at_most_or_below, below_at_most_weak}
@@ -19,6 +19,16 @@ pub cancel_product_of-at_most : (k a b : Fraction) → 0 < k.den → IsBelow (wh
 cancel_product_of-at_most k a b hk more h =
     ⊎_elim (λ le. le) (λ less. absurd (not_at_most_below (product_of k a) (product_of k b) h (product_of-below k b a hk more less)))
     (at_most_or_below a b)
+
+pub cancel_product_of-below : (k a b : Fraction) → IsBelow (whole (pos 0)) k → IsBelow (product_of k a) (product_of k b) → IsBelow a b
+cancel_product_of-below k a b more h =
+    ⊎_elim (λ le. absurd (not_at_most_below (product_of k b) (product_of k a) (product_of-at_most k b a (below_at_most_weak (whole (pos 0)) k more) le) h))
+    (λ less. less) (at_most_or_below b a)
+
+pub cancel_product_of-same : (k a b : Fraction) → 0 < k.den → IsBelow (whole (pos 0)) k → IsSame (product_of k a) (product_of k b) → IsSame a b
+cancel_product_of-same k a b hk more e =
+    at_most_both a b (cancel_product_of-at_most k a b hk more (at_most-same (product_of k a) (product_of k b) e))
+    (cancel_product_of-at_most k b a hk more (at_most-same (product_of k b) (product_of k a) (same_sym (product_of k a) (product_of k b) e)))
 
 -- k b' is b where b' is b / k, and the like
 dividing : (k b : Fraction) → 0 < k.den → 0 < b.den → k.num ≢ pos 0 → IsSame (product_of k (quotient_of b k)) b

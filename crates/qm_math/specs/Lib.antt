@@ -8,3 +8,4 @@ pub mod Over
 pub mod Totals
 pub mod Combinations
 pub mod Pivots
+pub mod Lexicographic
