@@ -23,3 +23,4 @@ pub mod Lexicographic
 pub mod Ends
 pub mod Refutes
 pub mod Distinct
+pub mod Counts

@@ -2,6 +2,7 @@ pub mod Fraction
 pub mod Arithmetic
 pub mod Rounding
 pub mod Ranges
+pub mod Counts
 pub mod Ends
 pub mod Sums
 pub mod Over

@@ -5,6 +5,7 @@
 
 mod adding;
 mod boxes;
+mod columns;
 mod counting;
 mod field;
 mod floors;
@@ -18,7 +19,10 @@ pub use adding::{
     the_sums_of_a_double_sum_exchange,
 };
 pub use boxes::{multiples_lie_between_the_ends, values_over_a_box_lie_between_the_ends};
-pub use counting::distinct_numbers_below;
+pub use columns::{
+    a_pivot_keeps_columns_negative, a_pivot_lowers_a_column, lists_of_fractions_are_ordered,
+};
+pub use counting::{distinct_lists_within, distinct_numbers_below};
 pub use field::{
     denominators_stay_positive, fractions_divide, fractions_form_a_ring,
     the_same_fractions_give_the_same, whole_numbers_are_fractions,
