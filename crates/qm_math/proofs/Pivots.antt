@@ -3,9 +3,9 @@ use Rattle.std.proofs.Common.{◌≡◌, refl, subst, ℕ, ◌<◌, arith, List,
 use Rattle.std.proofs.lemmas.List.Elements.{All-set, All-get_or}
 use Rattle.qm_math.specs.Fraction.{Fraction, IsSame}
 use Rattle.qm_math.specs.Arithmetic.{sum_of, difference_of, product_of}
-use Rattle.qm_math.specs.Totals.{total_of, sum_of_products, reduced_row}
+use Rattle.qm_math.specs.Totals.{sum_of_products, reduced_row}
 use Rattle.qm_math.specs.Combinations.{value_at}
-use Rattle.qm_math.specs.Pivots.{row_value, pivoted_row, pivoted_constant}
+use Rattle.qm_math.specs.Pivots.{row_value, pivoted_row, pivoted_constant, pivoted_number}
 use Rattle.qm_math.proofs.Polynomials.{item, number, ◌⊕◌, ◌⊗◌, minus}
 use Rattle.qm_math.proofs.Ring.{x0, x1, x2, x3, x4, x5, x6, x7, x8, x9}
 use Rattle.qm_math.proofs.FractionRing.{den_of, same_by_ring, same_from}
@@ -92,7 +92,7 @@ value_at-pivoted columns constant other f y p tc q t u x h0 h1 h2 h3 h4 h5 h6 ht
     (product_of_den f (u (get_or columns i d)) h2 (hu i d below))) hx)
     (value_at-reduced_row columns f t u x) factor pivot
 
--- ---- what a pivot does to a row is linear in the row: t and c give each row's number in a column and in the pivot column
+-- ---- what a pivot does to a row is linear in the row
 linear_step : (y t c g r s e n : Fraction) → IsSame (difference_of s (product_of (product_of e g) r)) n
     → IsSame (difference_of (sum_of (product_of y t) s) (product_of (product_of (sum_of (product_of y c) e) g) r))
     (sum_of (product_of y (difference_of t (product_of (product_of c g) r))) n)
@@ -101,11 +101,9 @@ linear_step y t c g r s e n h =
     (x0 ⊗ x1 ⊕ x5 ⊕ minus ((x0 ⊗ x2 ⊕ x6) ⊗ x3 ⊗ x4)) (x0 ⊗ (x1 ⊕ minus (x2 ⊗ x3 ⊗ x4)) ⊕ x7)
     ((den_of (x0 ⊗ x0 ⊗ x0 ⊗ x1 ⊗ x1 ⊗ x2 ⊗ x2 ⊗ x3 ⊗ x4), x5 ⊕ minus (x6 ⊗ x3 ⊗ x4), x7) ∷ []) (h, tt) refl
 
-pub difference_of-total_of : {R : Type 0} (rows : List R) (y t c : R → Fraction) (g r : Fraction)
-    → IsSame (difference_of (total_of (λ i. product_of (y i) (t i)) rows) (product_of (product_of (total_of (λ i. product_of (y i) (c i)) rows) g) r))
-    (total_of (λ i. product_of (y i) (difference_of (t i) (product_of (product_of (c i) g) r))) rows)
-difference_of-total_of [] y t c g r = same_by_ring (g ∷ r ∷ []) (number (pos 0) ⊕ minus (number (pos 0) ⊗ x0 ⊗ x1)) (number (pos 0)) refl
-difference_of-total_of (i ∷ rows) y t c g r =
-    linear_step (y i) (t i) (c i) g r (total_of (λ i. product_of (y i) (t i)) rows) (total_of (λ i. product_of (y i) (c i)) rows)
-    (total_of (λ i. product_of (y i) (difference_of (t i) (product_of (product_of (c i) g) r))) rows)
-    (difference_of-total_of rows y t c g r)
+pub pivoted_number-value_at : {R : Type 0} (rows : List R) (y t p : R → Fraction) (g r : Fraction)
+    → IsSame (pivoted_number (value_at rows y t) (value_at rows y p) g r) (value_at rows y (λ i. pivoted_number (t i) (p i) g r))
+pivoted_number-value_at [] y t p g r = same_by_ring (g ∷ r ∷ []) (number (pos 0) ⊕ minus (number (pos 0) ⊗ x0 ⊗ x1)) (number (pos 0)) refl
+pivoted_number-value_at (i ∷ rows) y t p g r =
+    linear_step (y i) (t i) (p i) g r (value_at rows y t) (value_at rows y p) (value_at rows y (λ i. pivoted_number (t i) (p i) g r))
+    (pivoted_number-value_at rows y t p g r)
