@@ -1,8 +1,8 @@
+pub mod Conditions
 pub mod Digits
 pub mod Items
 pub mod ReadIsWritten
 pub mod Shrinks
 pub mod Steps
-pub mod Tests
 pub mod TextWords
 pub mod WrittenIsRead

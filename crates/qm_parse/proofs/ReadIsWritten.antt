@@ -11,7 +11,7 @@ use Rattle.qm_parse.specs.Spelling.{is_name, is_number, value_of}
 use Rattle.qm_parse.specs.Grammar.{Each, Literal, Name, Number, NewLine, Sign, Factor, Term, Terms, Right, Row, Objective, Rows, Names, OptionalNames, SmallText}
 use Rattle.qm_parse.specs.Reading.{◌>>=◌, at_most, each_at, literal_at, name_at, number_at, new_line_at, sign_at, factor_at, term_at, more_terms_at, terms_at, below_zero_at, right_at, row_at, objective_at, rows_at, names_at, optional_names_at, is_nothing, is_end, small_text_at}
 use Rattle.qm_parse.proofs.Items.{option_cases, at_most-none, at_most-some}
-use Rattle.qm_parse.proofs.Tests.{test_some}
+use Rattle.qm_parse.proofs.Conditions.{test_some}
 use Rattle.qm_parse.proofs.Steps.{some_is, bind_some, sign_minus, sign_plus, sign_none, factor_some, factor_none, terms_some, terms_none, right_plain, right_below_zero, optional_names_some, optional_names_none, end_some, end_none, row_steps, text_objective, text_rows, text_binaries, text_ordered}
 
 pub literal_takes : (spelling : List ℕ) (ws rest : List Word) → literal_at spelling ws ≡ Some rest → Literal spelling ws rest

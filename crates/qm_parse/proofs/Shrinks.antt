@@ -8,7 +8,7 @@ use Rattle.qm_parse.specs.declared.written.WrittenTerm.{WrittenTerm}
 use Rattle.qm_parse.specs.Spelling.{is_name, is_number, value_of}
 use Rattle.qm_parse.specs.Reading.{◌>>=◌, literal_at, name_at, number_at, new_line_at, sign_at, factor_at, term_at, more_terms_at, below_zero_at, right_at, row_at}
 use Rattle.qm_parse.proofs.Items.{option_cases, each_at-shrinks}
-use Rattle.qm_parse.proofs.Tests.{test_some}
+use Rattle.qm_parse.proofs.Conditions.{test_some}
 use Rattle.qm_parse.proofs.Steps.{some, some_is, bind_some, right_plain, right_below_zero, row_steps}
 
 pub literal_at-shrinks : (spelling : List ℕ) (ws rest : List Word) → literal_at spelling ws ≡ Some rest → length rest < length ws

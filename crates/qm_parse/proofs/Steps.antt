@@ -1,5 +1,5 @@
 -- One step of each reader on lists: what it answers where its first part was read, and where not.
-use Rattle.std.proofs.Common.{◌≡◌, ℕ, ℤ, pos, Bool, true, false, cond, List, [], Option, Some, None, refl, sym, ap, subst, ◌∙◌}
+use Rattle.std.proofs.Common.{◌≡◌, ℕ, ℤ, pos, Bool, true, false, cond, List, [], Option, Some, None, refl, sym, ap, ◌∙◌}
 use Rattle.std.specs.Prelude.{codes, neg_ℤ}
 use Rattle.qm_parse.specs.declared.words.Word.{Word}
 use Rattle.qm_parse.specs.declared.written.Written.{Written}

@@ -1,5 +1,5 @@
 -- What is written so is read: the grammar, and the readers on lists.
-use Rattle.std.proofs.Common.{◌≡◌, ℕ, ℤ, Bool, true, false, cond, not, ◌&&◌, List, [], ◌∷◌, Option, Some, None, inl, inr, refl, sym, ap, subst, ◌∙◌, arith}
+use Rattle.std.proofs.Common.{◌≡◌, ℕ, ℤ, Bool, true, false, cond, not, List, [], ◌∷◌, Option, Some, None, inl, inr, refl, sym, ap, subst, ◌∙◌, arith}
 use Rattle.std.specs.Prelude.{codes}
 use Rattle.std.specs.Char.{is_ascii_alphabetic, is_ascii_digit}
 use Rattle.std.specs.Str.{bytes_eq}
@@ -15,7 +15,7 @@ use Rattle.qm_parse.specs.Grammar.{Each, Literal, Name, Number, NewLine, Sign, F
 use Rattle.qm_parse.specs.Reading.{each_at, literal_at, name_at, number_at, new_line_at, sign_at, factor_at, term_at, more_terms_at, terms_at, right_at, row_at, objective_at, rows_at, names_at, optional_names_at, is_end, small_text_at}
 use Rattle.qm_parse.proofs.Items.{Shrinks, with_front, each_at-none, each_at-some}
 use Rattle.qm_parse.proofs.Shrinks.{name_at-shrinks, term_at-shrinks, row_at-shrinks}
-use Rattle.qm_parse.proofs.Tests.{and_true, cond_true}
+use Rattle.qm_parse.proofs.Conditions.{and_true, cond_true}
 use Rattle.qm_parse.proofs.Steps.{sign_minus, sign_plus, sign_none, factor_some, factor_none, terms_some, terms_none, right_plain, right_below_zero, below_zero_some, optional_names_some, optional_names_none, end_some}
 
 -- ---- single words

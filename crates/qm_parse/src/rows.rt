@@ -34,15 +34,9 @@ fn row(alloc: Global, words: &[Word]) -> Result<(WrittenRow, &[Word]), Unread>
 {
     let (first, rest) = term(alloc, words, true)?;
     let (terms, rest) = more_terms(alloc, first, rest)?;
-    let Some(rest) = literal(rest, b"<=") else {
-        return Err(Unread::Grammar);
-    };
-    let Some((right, rest)) = right(rest) else {
-        return Err(Unread::Grammar);
-    };
-    let Some(rest) = new_line(rest) else {
-        return Err(Unread::Grammar);
-    };
+    let rest = literal(rest, b"<=").ok_or(Unread::Grammar)?;
+    let (right, rest) = right(rest).ok_or(Unread::Grammar)?;
+    let rest = new_line(rest).ok_or(Unread::Grammar)?;
     Ok((WrittenRow { terms, right }, rest))
 }
 

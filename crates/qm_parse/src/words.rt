@@ -56,6 +56,7 @@ fn split_word(text: &[u8]) -> (&[u8], &[u8])
     (text, &[])
 }
 
+/// Whether the byte is a space or an LF.
 fn is_blank(byte: u8) -> bool
     ensures { result ≡ is_blank byte }
 {
