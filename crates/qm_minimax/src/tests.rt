@@ -1,6 +1,6 @@
 // That a call succeeds: x from 0 to 2, then the other player's y from 0 to 1, and x + y at most 2.
 // x = 2 loses against y = 1, so the best is x = 1, and the worst of 10 * x - 3 * y + 7 after it is 14.
-ghost use Rattle.std.specs.Prelude.{◌≡◌, ◌≢◌, ◌∷◌, [], IfOk, pos};
+ghost use Rattle.std.specs.Prelude.{◌≡◌, ◌≢◌, ◌∷◌, [], IfOk, pos, true};
 ghost use Rattle.qm_minimax.specs.Plain.{IsPlain};
 
 use crate::minimax_value;
