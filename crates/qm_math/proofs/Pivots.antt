@@ -12,7 +12,7 @@ use Rattle.qm_math.proofs.FractionRing.{den_of, same_by_ring, same_from}
 use Rattle.qm_math.proofs.FractionLinear.{same_given}
 use Rattle.qm_math.proofs.FractionLaws.{product_of_den, difference_of_den}
 use Rattle.qm_math.proofs.Combinations.{value_at_den}
-use Rattle.qm_math.proofs.Rows.{sum_of_products_den, length-reduced_row, get_or-reduced_row, reduced_row_den, reduced_step, sum_of_products-reduced_row, sum_of_products-set}
+use Rattle.qm_math.proofs.Rows.{sum_of_products_den, length-reduced_row, get_or-reduced_row, reduced_row_den, reduced_step, sum_of_products-reduced_row, sum_of_products-set, sum_of_products-set_value}
 
 -- the algebra of it: t, u and q are what the rows and the values have in the pivot column, T and U the sums
 -- over the old columns, C the sum after the row is reduced, and N the sum after the column has the factor
@@ -57,6 +57,26 @@ row_value-pivoted_row constant other f y ks os vs c d lengths in_row in_values h
     (subst (λ entry. IsSame (sum_of (sum_of_products (set less c f) (set vs c y)) (product_of entry (get_or vs c d))) (sum_of (sum_of_products less vs) (product_of f y))) entry replaced)
     (sum_of_products-reduced_row ks f os vs lengths)
     factor pivot
+
+-- ---- an unknown counted from another origin: its value falls by a shift, and the constant takes the shift's share
+shifts : (constant k s t n q : Fraction) → 0 < constant.den → 0 < k.den → 0 < s.den → 0 < t.den → 0 < n.den → 0 < q.den
+    → IsSame (sum_of n (product_of k q)) (sum_of t (product_of k (difference_of q s)))
+    → IsSame (sum_of (sum_of constant (product_of k s)) n) (sum_of constant t)
+shifts constant k s t n q h0 h1 h2 h3 h4 h5 e =
+    same_given (constant ∷ k ∷ s ∷ t ∷ n ∷ q ∷ []) (x0 ⊕ x1 ⊗ x2 ⊕ x4) (x0 ⊕ x3)
+    ((number (pos 1), x4 ⊕ x1 ⊗ x5, x3 ⊕ x1 ⊗ (x5 ⊕ minus x2)) ∷ [])
+    (h0, (h1, (h2, (h3, (h4, (h5, tt)))))) (e, tt) refl
+
+pub row_value-shifted : (constant shift : Fraction) (ks vs : List Fraction) (c : ℕ) (d : Fraction) → c < length ks → c < length vs
+    → 0 < constant.den → 0 < shift.den → All (λ k. 0 < k.den) ks → All (λ v. 0 < v.den) vs
+    → IsSame (row_value (sum_of constant (product_of (get_or ks c d) shift)) ks (set vs c (difference_of (get_or vs c d) shift))) (row_value constant ks vs)
+row_value-shifted constant shift ks vs c d in_row in_values hconstant hshift hk hv =
+    let here = All-get_or (λ v. 0 < v.den) vs c d in_values hv in
+    let moved = difference_of (get_or vs c d) shift in
+    shifts constant (get_or ks c d) shift (sum_of_products ks vs) (sum_of_products ks (set vs c moved)) (get_or vs c d)
+    hconstant (All-get_or (λ k. 0 < k.den) ks c d in_row hk) hshift (sum_of_products_den ks vs hk hv)
+    (sum_of_products_den ks (set vs c moved) hk (All-set (λ v. 0 < v.den) vs c moved (difference_of_den (get_or vs c d) shift here hshift) hv)) here
+    (sum_of_products-set_value ks vs c moved d d in_row in_values)
 
 -- ---- the same by columns: t and u give the two rows' numbers in the columns other than the pivot column
 pub value_at-reduced_row : {C : Type 0} (columns : List C) (f : Fraction) (t u x : C → Fraction)

@@ -1,6 +1,6 @@
 ghost use Rattle.std.specs.Prelude.{◌≡◌, ◌<◌, ℕ, ℤ, pos, List, All, length, slice_index_or, slice_set};
 ghost use Rattle.qm_math.specs.Fraction.{Fraction, HasPositiveDen, whole, IsAtMost, IsBelow, IsSame};
-ghost use Rattle.qm_math.specs.Arithmetic.{product_of};
+ghost use Rattle.qm_math.specs.Arithmetic.{sum_of, difference_of, product_of};
 ghost use Rattle.qm_math.specs.Rounding.{IsFloor};
 ghost use Rattle.qm_math.specs.Totals.{total_of};
 ghost use Rattle.qm_math.specs.Combinations.{value_at, combined_row};
@@ -56,6 +56,17 @@ pub fn a_pivot_keeps_every_row()
         IsSame y (row_value other others values) →
         IsSame (row_value (pivoted_constant constant factor other) (pivoted_row ks factor others c)
         (slice_set values c y)) (row_value constant ks values) }
+{}
+
+/// A row is kept when an unknown is counted from another origin: its value falls by the shift, and
+/// the constant takes the shift times the unknown's number.
+pub fn a_shift_keeps_every_row()
+    ensures { (constant shift : Fraction) (ks values : List Fraction) (c : ℕ) (d : Fraction) →
+        c < length ks → c < length values → HasPositiveDen constant → HasPositiveDen shift →
+        All HasPositiveDen ks → All HasPositiveDen values →
+        IsSame (row_value (sum_of constant (product_of (slice_index_or ks c d) shift)) ks
+        (slice_set values c (difference_of (slice_index_or values c d) shift)))
+        (row_value constant ks values) }
 {}
 
 /// A row of whole numbers at whole values is at most its bound rounded down.
