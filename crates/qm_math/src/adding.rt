@@ -1,4 +1,4 @@
-ghost use Rattle.std.specs.Prelude.{◌≡◌, ◌<◌, ◌↔◌, ℕ, ℤ, ◌+ℤ◌, ◌*ℤ◌, ◌≤ℤ◌, ◌++◌, List, map, All};
+ghost use Rattle.std.specs.Prelude.{◌≡◌, ◌<◌, ◌↔◌, ℕ, ℤ, ◌+ℤ◌, ◌*ℤ◌, ◌≤ℤ◌, ◌++◌, List, map, filter, All, Bool, false, pos};
 ghost use Rattle.std.specs.List.{AllZip};
 ghost use Rattle.qm_math.specs.Fraction.{Fraction, HasPositiveDen, whole, IsAtMost, IsSame};
 ghost use Rattle.qm_math.specs.Arithmetic.{sum_of, product_of};
@@ -23,8 +23,8 @@ pub fn sums_of_whole_numbers()
         sum_of_each f xs ≤ℤ sum_of_each g xs }
 {}
 
-/// Sums of fractions over lists, up to the same number: of lists joined, of sums and multiples, and
-/// term by term.
+/// Sums of fractions over lists, up to the same number: of lists joined, of sums and multiples, term
+/// by term, and of items left out that give 0.
 pub fn sums_of_fractions()
     ensures joined { (f : ℕ → Fraction) (xs ys : List ℕ) →
         IsSame (total_of f (xs ++ ys)) (sum_of (total_of f xs) (total_of f ys)) }
@@ -32,6 +32,9 @@ pub fn sums_of_fractions()
         IsSame (product_of k (total_of f xs)) (total_of (λ x. product_of k (f x)) xs) }
     ensures sum { (f g : ℕ → Fraction) (xs : List ℕ) →
         IsSame (total_of (λ x. sum_of (f x) (g x)) xs) (sum_of (total_of f xs) (total_of g xs)) }
+    ensures left_out { (f : ℕ → Fraction) (test : ℕ → Bool) (xs : List ℕ) →
+        All (λ x. test x ≡ false → IsSame (f x) (whole (pos 0))) xs →
+        IsSame (total_of f (filter test xs)) (total_of f xs) }
     ensures same { (f g : ℕ → Fraction) (xs : List ℕ) → All (λ x. IsSame (f x) (g x)) xs →
         IsSame (total_of f xs) (total_of g xs) }
     ensures at_most { (f g : ℕ → Fraction) (xs : List ℕ) → All (λ x. IsAtMost (f x) (g x)) xs →
