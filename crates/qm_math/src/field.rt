@@ -38,6 +38,8 @@ pub fn the_same_fractions_give_the_same()
     ensures product { (a b c d : Fraction) → IsSame a c → IsSame b d →
         IsSame (product_of a b) (product_of c d) }
     ensures negative { (a b : Fraction) → IsSame a b → IsSame (negated a) (negated b) }
+    ensures quotient { (a b c d : Fraction) → IsSame a c → IsSame b d →
+        IsSame (quotient_of a b) (quotient_of c d) }
 {}
 
 /// Sums, products and negatives of fractions with positive denominators have positive denominators.
