@@ -1,9 +1,8 @@
+use crate::question::{Question, over, read_question};
 use qm_frac::{Frac, Leaves, Op};
 use std::alloc::{AllocError, Global};
 use std::cmp::Ordering;
 use std::fmt;
-
-use crate::question::{Question, over, read_question};
 
 // A fraction as it is printed: `A`, or `A/B` where B isn't 1.
 #[derive(Clone, Copy)]

@@ -10,6 +10,31 @@ use crate::numbers::{plus, reduced, scaled, times};
 pub(crate) fn total(a: Frac, b: Frac) -> Option<Frac>
     ensures { SomeIff result (SumFits a b) (sum a b) }
 {
+    if a.den() == b.den() {
+        total_over_one_den(a, b)
+    } else if a.num() == 0 {
+        Some(b)
+    } else if b.num() == 0 {
+        Some(a)
+    } else {
+        total_over_common_den(a, b)
+    }
+}
+
+// With one denominator, as that of whole numbers, nothing is multiplied.
+fn total_over_one_den(a: Frac, b: Frac) -> Option<Frac>
+    requires { a.den ≡ b.den }
+    ensures { SomeIff result (SumFits a b) (sum a b) }
+{
+    let (left, den) = a.parts();
+    let (right, _) = b.parts();
+    let num = plus(left, right)?;
+    lowest_of(num < 0, num.unsigned_abs(), den)
+}
+
+fn total_over_common_den(a: Frac, b: Frac) -> Option<Frac>
+    ensures { SomeIff result (SumFits a b) (sum a b) }
+{
     let (left_num, left_den) = a.parts();
     let (right_num, right_den) = b.parts();
     let (left_part, right_part) = reduced(left_den, right_den);
