@@ -13,7 +13,7 @@ use Rattle.qm_frac.specs.Arithmetic.{SumFits, sum, left_num, right_num, common_d
 use Rattle.qm_frac.proofs.SignLaws.{below_zero_is}
 use Rattle.qm_frac.proofs.Divisors.{gcd_of-zero}
 use Rattle.qm_frac.proofs.Halving.{gcd_of-swap, gcd_of-self, gcd_of-one}
-use Rattle.qm_frac.proofs.Terms.{in_range_small, lowest_again}
+use Rattle.qm_frac.proofs.Terms.{in_range_small, lowest_again, whole_is}
 
 *ℤ_one : (z : ℤ) → z *ℤ pos 1 ≡ z
 *ℤ_one (pos n) = ap pos (let e : n * 1 ≡ n = omega arith in e)
@@ -46,6 +46,12 @@ total_is a b left right num left_part right_part common lp rp cm l r n c_fits l_
     let in_range : IsInRange (sum a b) = in_range_small (left_num a b +ℤ right_num a b) (common_den a b) fits.total fits.common in
     SomeIff-swap result (IsInRange (sum a b)) (SumFits a b) (sum a b) in_range fits (subst (λ (x : Fraction). SomeIff result (IsInRange x) x) sums is)
 
+-- a fraction of the program with the value that the code made again
+again : (b : Fraction) → IsFrac b → SomeIff (Some b) (IsInRange (lowest_parts (lt_z b.num (pos 0)) (unsigned_abs b.num) b.den)) (lowest_parts (lt_z b.num (pos 0)) (unsigned_abs b.num) b.den)
+again b h =
+    let same : lowest b.num b.den ≡ b = lowest_again b h in
+    rw (below_zero_is b.num) (in_range_small b.num b.den h.num_fits h.den_fits, sym same)
+
 -- ---- one denominator
 
 same_den_part : (a b : Fraction) → a.den ≡ b.den → 0 < a.den → 1 ≡ a.den / gcd_of a.den b.den
@@ -72,17 +78,20 @@ same_den_total_is a b num a_is b_is same num_is fits r is =
     total_is a b a.num b.num num 1 1 a.den (same_den_part a b same a_is.positive) (same_den_other_part a b same a_is.positive) (let e : a.den ≡ a.den * 1 = omega arith in e)
     (sym (*ℤ_one a.num)) (sym (*ℤ_one b.num)) num_is a_is.den_fits a_is.num_fits b_is.num_fits fits r is
 
+pub whole_total_is : (a b r : Fraction) (num : ℤ) → IsFrac a → IsFrac b → a.den ≡ b.den → a.den ≡ 1 → num ≡ a.num +ℤ b.num → unsigned_abs num < 2 ^ 127
+    → r ≡ (record { num = num; den = 1 }) → SomeIff (Some r) (SumFits a b) (sum a b)
+whole_total_is a b r num a_is b_is same one num_is fits r_is =
+    let over : ℕ → Fraction = λ (x : ℕ). record { num = num; den = x } in
+    let is : IsFrac (over a.den) = subst (λ (x : ℕ). IsFrac (over x)) (sym one) (whole_is num fits) in
+    let same_r : r ≡ over a.den = r_is ∙ ap over (sym one) in
+    subst (λ (x : Fraction). SomeIff (Some x) (SumFits a b) (sum a b)) (sym same_r)
+    (same_den_total_is a b num a_is b_is same num_is fits (Some (over a.den)) (again (over a.den) is))
+
 -- ---- a sum with 0
 
 -- 0 in lowest terms has the denominator 1
 zero_den : (a : Fraction) → IsFrac a → a.num ≡ pos 0 → a.den ≡ 1
 zero_den a h zero = sym (gcd_of-zero a.den 0 refl) ∙ gcd_of-swap a.den 0 ∙ ap (λ (x : ℤ). gcd_of (unsigned_abs x) a.den) (sym zero) ∙ h.lowest
-
--- a fraction of the program with the value that the code made again
-again : (b : Fraction) → IsFrac b → SomeIff (Some b) (IsInRange (lowest_parts (lt_z b.num (pos 0)) (unsigned_abs b.num) b.den)) (lowest_parts (lt_z b.num (pos 0)) (unsigned_abs b.num) b.den)
-again b h =
-    let same : lowest b.num b.den ≡ b = lowest_again b h in
-    rw (below_zero_is b.num) (in_range_small b.num b.den h.num_fits h.den_fits, sym same)
 
 pub zero_plus : (a b : Fraction) → IsFrac a → IsFrac b → a.num ≡ pos 0 → SomeIff (Some b) (SumFits a b) (sum a b)
 zero_plus a b a_is b_is zero =

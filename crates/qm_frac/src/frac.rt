@@ -205,6 +205,14 @@ impl Frac {
     }
 }
 
+/// A numerator over 1.
+pub(crate) fn over_one(num: i128) -> Frac
+    requires { unsigned_abs num < 2 ^ 127 }
+    ensures { result ≡ record { num = num; den = 1 } }
+{
+    Frac { num, den: 1 }
+}
+
 /// A sign and two magnitudes that are in lowest terms and in range.
 pub(crate) fn made(minus: bool, num: u128, den: u128) -> Frac
     requires { IsFrac (record { num = signed minus num; den = den }) }

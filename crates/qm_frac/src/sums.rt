@@ -3,10 +3,11 @@ ghost use Rattle.std.specs.Option.{SomeIff};
 ghost use Rattle.qm_frac.specs.Arithmetic.{SumFits, sum};
 ghost use Rattle.qm_frac.specs.Lowest.{lowest};
 
-use crate::frac::{Frac, lowest_of};
+use crate::frac::{Frac, lowest_of, over_one};
 use crate::numbers::{plus, reduced, scaled, times};
 
 /// The sum, where the steps to it stay in range.
+#[inline]
 pub(crate) fn total(a: Frac, b: Frac) -> Option<Frac>
     ensures { SomeIff result (SumFits a b) (sum a b) }
 {
@@ -22,6 +23,7 @@ pub(crate) fn total(a: Frac, b: Frac) -> Option<Frac>
 }
 
 // With one denominator, as that of whole numbers, nothing is multiplied.
+#[inline]
 fn total_over_one_den(a: Frac, b: Frac) -> Option<Frac>
     requires { a.den ≡ b.den }
     ensures { SomeIff result (SumFits a b) (sum a b) }
@@ -29,9 +31,14 @@ fn total_over_one_den(a: Frac, b: Frac) -> Option<Frac>
     let (left, den) = a.parts();
     let (right, _) = b.parts();
     let num = plus(left, right)?;
-    lowest_of(num < 0, num.unsigned_abs(), den)
+    if den == 1 {
+        Some(over_one(num))
+    } else {
+        lowest_of(num < 0, num.unsigned_abs(), den)
+    }
 }
 
+#[inline(never)]
 fn total_over_common_den(a: Frac, b: Frac) -> Option<Frac>
     ensures { SomeIff result (SumFits a b) (sum a b) }
 {
