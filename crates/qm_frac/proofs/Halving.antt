@@ -109,11 +109,11 @@ low_zeros (suc k) n h =
     let back : n / 2 ^ suc k * 2 ≡ n / 2 ^ k = ap (λ x. x * 2) (sym half) ∙ omega arith in
     ap (λ x. n / 2 ^ suc k * x) power ∙ (let e : n / 2 ^ suc k * (2 ^ k * 2) ≡ n / 2 ^ suc k * 2 * 2 ^ k = omega arith in e) ∙ ap (λ x. x * 2 ^ k) back ∙ before
 
--- the greatest common divisor as it is shifted back
-pub shifted_back : (a b p q i j m : ℕ) → 0 < a → a < 2 ^ 64 → p % 2 ≡ 1 → q % 2 ≡ 1 → p * 2 ^ i ≡ a → q * 2 ^ j ≡ b → m ≡ min i j
-    → gcd_of p q * 2 ^ m % 2 ^ 64 ≡ gcd_of a b
-shifted_back a b p q i j m some fits p_odd q_odd a_is b_is m_is =
+-- the greatest common divisor as it is shifted back in w bits
+pub shifted_back : (w a b p q i j m : ℕ) → 0 < a → a < 2 ^ w → p % 2 ≡ 1 → q % 2 ≡ 1 → p * 2 ^ i ≡ a → q * 2 ^ j ≡ b → m ≡ min i j
+    → gcd_of p q * 2 ^ m % 2 ^ w ≡ gcd_of a b
+shifted_back w a b p q i j m some fits p_odd q_odd a_is b_is m_is =
     let same : gcd_of p q * 2 ^ m ≡ gcd_of a b =
     ap (λ x. gcd_of p q * 2 ^ x) m_is ∙ sym (shared_twos p q i j p_odd q_odd) ∙ ap (λ x. gcd_of x (q * 2 ^ j)) a_is ∙ ap (λ x. gcd_of a x) b_is in
     let small : gcd_of a b ≤ a = le_of_dvd some (gcd_is a b).0 in
-    ap (λ x. x % 2 ^ 64) same ∙ mod-eq_of_lt (let l : gcd_of a b < 2 ^ 64 = omega arith in l)
+    ap (λ x. x % 2 ^ w) same ∙ mod-eq_of_lt (let l : gcd_of a b < 2 ^ w = omega arith in l)

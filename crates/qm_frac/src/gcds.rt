@@ -1,5 +1,5 @@
 ghost use Rattle.std.specs.Prelude.{◌≡◌, ◌<◌, ◌≤◌, ◌*◌, ◌%◌, ◌^◌, unsigned_abs};
-ghost use Rattle.std.specs.Int.{w64, trailing_zeros};
+ghost use Rattle.std.specs.Int.{w64, w128, trailing_zeros};
 ghost use Rattle.qm_frac.specs.Gcd.{gcd_of};
 
 /// The greatest number of 64 bits.
@@ -12,7 +12,7 @@ pub fn gcd(a: i128, b: i128) -> u128
     common_divisor(a.unsigned_abs(), b.unsigned_abs())
 }
 
-/// The greatest common divisor of two magnitudes.
+/// The greatest common divisor of two magnitudes, in 64 bits where they have no more.
 pub(crate) fn common_divisor(a: u128, b: u128) -> u128
     ensures value { result ≡ gcd_of a b }
     ensures some { 0 < b → 0 < result }
@@ -24,22 +24,61 @@ pub(crate) fn common_divisor(a: u128, b: u128) -> u128
     }
 }
 
-// By Euclid's remainders as long as a number has more than 64 bits.
+// As long as both numbers have more than 64 bits by the differences of odd parts.
 fn wide_divisor(a: u128, b: u128) -> u128
+    ensures { result ≡ gcd_of a b }
+{
+    if b <= NARROW {
+        return half_narrow_divisor(a, b);
+    }
+    if a <= NARROW {
+        return half_narrow_divisor(b, a);
+    }
+    let twos = a.trailing_zeros().min(b.trailing_zeros());
+    odd_wide_divisor(odd_wide_part(a), odd_wide_part(b)) << twos
+}
+
+// One remainder has 64 bits again.
+fn half_narrow_divisor(a: u128, b: u128) -> u128
+    requires { b < 2 ^ 64 }
+    ensures { result ≡ gcd_of a b }
+{
+    if b == 0 {
+        a
+    } else {
+        u128::from(narrow_divisor(b as u64, (a % b) as u64))
+    }
+}
+
+fn odd_wide_divisor(a: u128, b: u128) -> u128
+    requires left { a % 2 ≡ 1 }
+    requires right { b % 2 ≡ 1 }
     ensures { result ≡ gcd_of a b }
 {
     let mut x = a;
     let mut y = b;
-    while y > NARROW {
-        let rest = x % y;
-        x = y;
-        y = rest;
+    while x > NARROW && y > NARROW {
+        if x == y {
+            return x;
+        }
+        let apart = odd_wide_part(x.abs_diff(y));
+        x = x.min(y);
+        y = apart;
     }
-    if y == 0 {
-        x
+    if y <= NARROW {
+        half_narrow_divisor(x, y)
     } else {
-        u128::from(narrow_divisor(y as u64, (x % y) as u64))
+        half_narrow_divisor(y, x)
     }
+}
+
+fn odd_wide_part(n: u128) -> u128
+    requires { 0 < n }
+    ensures odd { result % 2 ≡ 1 }
+    ensures part { result * 2 ^ trailing_zeros w128 n ≡ n }
+    ensures bound { result ≤ n }
+{
+    n >> n.trailing_zeros()
 }
 
 // What the odd parts have in common, times the lesser power of 2.

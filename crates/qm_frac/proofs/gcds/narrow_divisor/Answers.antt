@@ -14,4 +14,4 @@ returns c =
     let a = c.odd_part.ensures in
     let b = c.odd_part-2.ensures in
     rw c.odd_divisor.ensures
-    (shifted_back c.args.a c.args.b _ _ _ _ _ (omega arith) (omega arith) a.odd b.odd a.part b.part c.min-twos.ensures)
+    (shifted_back 64 c.args.a c.args.b _ _ _ _ _ (omega arith) (omega arith) a.odd b.odd a.part b.part c.min-twos.ensures)
