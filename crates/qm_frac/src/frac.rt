@@ -1,7 +1,7 @@
-ghost use Rattle.std.specs.Prelude.{◌≡◌, ◌<◌, ◌^◌, pos, ◌<ℤ◌, neg_ℤ, unsigned_abs, ◌↔◌, IfSome, IsOk, IfOk, IfErr};
+ghost use Rattle.std.specs.Prelude.{◌≡◌, ◌<◌, ◌^◌, pos, ◌<ℤ◌, unsigned_abs, ◌↔◌, IsOk, IfOk, IfErr};
 ghost use Rattle.std.specs.Option.{SomeIff};
 ghost use Rattle.std.specs.Int.{int_div_euclid};
-ghost use Rattle.qm_frac.specs.Lowest.{IsFrac, IsInRange, lowest, lowest_parts, lowest_terms};
+ghost use Rattle.qm_frac.specs.Lowest.{IsFrac, IsInRange, lowest_parts, lowest_terms};
 ghost use Rattle.qm_frac.specs.Signs.{signed};
 ghost use Rattle.qm_frac.specs.Arithmetic.{SumFits, sum, negated, difference, product, inverse, quotient, floor_of, ceil_of, IsFloor, IsCeil};
 ghost use Rattle.qm_frac.specs.Order.{fraction_cmp};

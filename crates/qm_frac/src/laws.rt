@@ -1,4 +1,4 @@
-ghost use Rattle.std.specs.Prelude.{◌≡◌, ℕ, ◌<◌, ◌*◌, ℤ, pos, ◌+ℤ◌, ◌*ℤ◌, unsigned_abs, Ok};
+ghost use Rattle.std.specs.Prelude.{◌≡◌, ℕ, ◌<◌, unsigned_abs, Ok};
 ghost use Rattle.std.specs.Int.{IsGcd};
 ghost use Rattle.qm_math.specs.Fraction.{Fraction, IsSame};
 ghost use Rattle.qm_frac.specs.Gcd.{gcd_of};

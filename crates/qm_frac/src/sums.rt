@@ -1,7 +1,6 @@
-ghost use Rattle.std.specs.Prelude.{◌≡◌, ◌<◌, ◌^◌, ◌+ℤ◌, unsigned_abs};
+ghost use Rattle.std.specs.Prelude.{◌≡◌};
 ghost use Rattle.std.specs.Option.{SomeIff};
 ghost use Rattle.qm_frac.specs.Arithmetic.{SumFits, sum};
-ghost use Rattle.qm_frac.specs.Lowest.{lowest};
 
 use crate::frac::{Frac, lowest_of, over_one};
 use crate::numbers::{plus, reduced, scaled, times};
