@@ -15,3 +15,6 @@ pub use ends::{least, most};
 pub use forms::{form_at, row_holds};
 pub use qm_model::{Game, Player, Problem, Range, Row, Sense, Term, Terms, Var};
 pub use row_id::RowId;
+
+#[cfg(test)]
+mod tests;
