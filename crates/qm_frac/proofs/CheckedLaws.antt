@@ -9,7 +9,7 @@ use Rattle.qm_math.proofs.Whole.{*ℤ_assoc, *ℤ_swap, cancel_le}
 use Rattle.qm_frac.specs.Signs.{signed, is_below_zero}
 use Rattle.qm_frac.specs.Lowest.{IsFrac, IsInRange}
 use Rattle.qm_frac.specs.Arithmetic.{SumFits, sum, difference, product, quotient, negated, inverse, left_num, right_num, common_den}
-use Rattle.qm_frac.specs.Plain.{sum_of, product_of}
+use Rattle.qm_frac.proofs.MultipliedOut.{sum_of, product_of}
 use Rattle.qm_frac.specs.Checked.{and_then, sum_fits, is_in_range, added, subtracted, multiplied, divided}
 use Rattle.qm_frac.specs.declared.leaves.Leaves.{Leaves}
 use Rattle.qm_frac.specs.declared.leaves.Op.TheVariants as op

@@ -1,3 +1,4 @@
+pub mod MultipliedOut
 pub mod Divisors
 pub mod SignLaws
 pub mod Terms
