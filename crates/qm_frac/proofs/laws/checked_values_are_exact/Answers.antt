@@ -1,6 +1,6 @@
 use Rattle.std.proofs.Common.{◌≡◌, Ok}
 use Rattle.qm_math.specs.Fraction.{Fraction, IsSame}
-use Rattle.qm_math.specs.Arithmetic.{sum_of, negated, difference_of, product_of, inverse_of, quotient_of}
+use Rattle.qm_math.specs.Arithmetic.{sum_of, negated, difference_of, product_of, quotient_of}
 use Rattle.qm_frac.specs.Checked.{subtracted, divided}
 use Rattle.qm_frac.proofs.MultipliedOut.{inverse-inverse_of}
 use Rattle.qm_frac.proofs.CheckedLaws.{added-value, subtracted-value, multiplied-value, divided-value}
