@@ -2,3 +2,11 @@ pub mod Whole
 pub mod Between
 pub mod Searches
 pub mod Compare
+pub mod Products
+pub mod Polynomials
+pub mod Ring
+pub mod FractionRing
+pub mod FractionLaws
+pub mod FractionOrder
+pub mod Sums
+pub mod Totals

@@ -1,3 +1,5 @@
 pub mod Fraction
+pub mod Arithmetic
 pub mod Ranges
 pub mod Sums
+pub mod Totals
