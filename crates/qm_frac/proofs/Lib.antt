@@ -1,0 +1,10 @@
+pub mod Divisors
+pub mod SignLaws
+pub mod Terms
+pub mod SumLaws
+pub mod ProductLaws
+pub mod Rounding
+pub mod OrderLaws
+pub mod Values
+pub mod AnswerLaws
+pub mod CheckedLaws

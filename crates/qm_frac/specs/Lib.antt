@@ -1,0 +1,7 @@
+pub mod Gcd
+pub mod Signs
+pub mod Lowest
+pub mod Arithmetic
+pub mod Plain
+pub mod Order
+pub mod Checked

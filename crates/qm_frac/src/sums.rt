@@ -1,0 +1,21 @@
+ghost use Rattle.std.specs.Prelude.{◌≡◌, ◌<◌, ◌^◌, ◌+ℤ◌, unsigned_abs};
+ghost use Rattle.std.specs.Option.{SomeIff};
+ghost use Rattle.qm_frac.specs.Arithmetic.{SumFits, sum};
+ghost use Rattle.qm_frac.specs.Lowest.{lowest};
+
+use crate::frac::{Frac, lowest_of};
+use crate::numbers::{plus, reduced, scaled, times};
+
+/// The sum, where the steps to it stay in range.
+pub(crate) fn total(a: Frac, b: Frac) -> Option<Frac>
+    ensures { SomeIff result (SumFits a b) (sum a b) }
+{
+    let (left_num, left_den) = a.parts();
+    let (right_num, right_den) = b.parts();
+    let (left_part, right_part) = reduced(left_den, right_den);
+    let common = times(left_den, right_part)?;
+    let left = scaled(left_num, right_part)?;
+    let right = scaled(right_num, left_part)?;
+    let num = plus(left, right)?;
+    lowest_of(num < 0, num.unsigned_abs(), common)
+}
