@@ -3,8 +3,8 @@ use Rattle.std.specs.Prelude.{List, Option, Some, None}
 use Rattle.qm_model.specs.declared.range.Range.{Range}
 use Rattle.qm_model.specs.declared.game.Problem.{Problem}
 use Rattle.qm_model.specs.Boxes.{IsDead}
-use Rattle.qm_game.specs.declared.row_id.RowId.{RowId}
-use Rattle.qm_game.specs.declared.row_id.RowId.TheVariants.{Row, Uncertain, Cut}
+use Rattle.qm_model.specs.declared.row_id.RowId.{RowId}
+use Rattle.qm_model.specs.declared.row_id.RowId.TheVariants.{Row, Uncertain, Cut}
 use Rattle.qm_game.specs.First.{HasNone, IsFirst}
 
 -- the first dead row, or where no row is dead the first dead uncertainty row, or where none is dead nothing

@@ -7,11 +7,11 @@ mod dead;
 mod ends;
 mod forms;
 mod product;
-mod row_id;
+
 
 pub use bx::{Bx, has_empty, narrow, put, whole_box};
 pub use dead::row_dead;
 pub use ends::{least, most};
 pub use forms::{form_at, row_holds};
-pub use qm_model::{Game, Player, Problem, Range, Row, Sense, Term, Terms, Var};
-pub use row_id::RowId;
+pub use qm_model::{Game, Player, Problem, Range, Row, RowId, Sense, Term, Terms, Var};
+

@@ -1,5 +1,5 @@
 -- Fractions of whole numbers without a bound on their size, compared multiplied out.
-use Rattle.std.specs.Prelude.{◌≡◌, ℕ, ℤ, pos, ◌*ℤ◌, ◌≤ℤ◌, ◌<ℤ◌}
+use Rattle.std.specs.Prelude.{◌≡◌, ℕ, ℤ, pos, ◌*ℤ◌, ◌≤ℤ◌, ◌<ℤ◌, Bool, int_le, int_lt}
 
 -- num / den, where den is above 0
 pub record Fraction : Type 0 where
@@ -18,3 +18,10 @@ IsBelow a b = (a.num *ℤ pos b.den) <ℤ (b.num *ℤ pos a.den)
 -- the same number, however it is written
 abbrev pub IsSame : Fraction → Fraction → Type 0
 IsSame a b = a.num *ℤ pos b.den ≡ b.num *ℤ pos a.den
+
+-- the tests of the two orders
+abbrev pub is_at_most : Fraction → Fraction → Bool
+is_at_most a b = int_le (a.num *ℤ pos b.den) (b.num *ℤ pos a.den)
+
+abbrev pub is_below : Fraction → Fraction → Bool
+is_below a b = int_lt (a.num *ℤ pos b.den) (b.num *ℤ pos a.den)

@@ -7,10 +7,12 @@ mod game;
 mod laws;
 mod range;
 mod row;
+mod row_id;
 mod variable;
 
 pub use game::{Game, Problem, Sense};
 pub use laws::{a_problem_has_one_ending, an_easier_goal_is_won, legal_means_some_play_agrees};
 pub use range::Range;
 pub use row::{Row, Term, Terms};
+pub use row_id::RowId;
 pub use variable::{Player, Var};
