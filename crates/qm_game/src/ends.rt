@@ -12,7 +12,11 @@ fn least_part(term: Term, range: Range) -> i128
     requires { unsigned_abs term.coef * reach range.low range.high ≤ 2 ^ 126 }
     ensures { result ≡ least_product term.coef range.low range.high }
 {
-    let end = if term.coef >= 0 { range.low } else { range.high };
+    let end = if term.coef >= 0 {
+        range.low
+    } else {
+        range.high
+    };
     product(term.coef, i128::from(end))
 }
 
@@ -21,7 +25,7 @@ fn most_part(term: Term, range: Range) -> i128
     requires { unsigned_abs term.coef * reach range.low range.high ≤ 2 ^ 126 }
     ensures { result ≡ greatest_product term.coef range.low range.high }
 {
-    let end = if term.coef >= 0 { range.high } else { range.low };
+    let end = if term.coef < 0 { range.low } else { range.high };
     product(term.coef, i128::from(end))
 }
 

@@ -15,3 +15,5 @@ pub use ends::{least, most};
 pub use forms::{form_at, row_holds};
 pub use qm_model::{Game, Player, Problem, Range, Row, RowId, Sense, Term, Terms, Var};
 
+#[cfg(test)]
+mod tests;

@@ -1,14 +1,13 @@
 -- Fractions form a field: the laws of sums, products, negatives and inverses, up to the same number.
-use Rattle.std.proofs.Common.{◌≡◌, ◌∙◌, sym, refl, ap, ℕ, zero, suc, ◌+◌, ◌*◌, ◌<◌, ◌≢◌, arith, mul-pos, [], ◌∷◌, ℤ, pos, negsuc, ◌+ℤ◌, ◌*ℤ◌, neg_ℤ, unsigned_abs}
-use Rattle.std.proofs.Math.IntN.{*ℤ_comm}
+use Rattle.std.proofs.Common.{◌≡◌, ◌∙◌, sym, refl, ap, zero, suc, ◌<◌, ◌≢◌, arith, mul-pos, [], ◌∷◌, ℤ, pos, negsuc, ◌+ℤ◌, ◌*ℤ◌, neg_ℤ, unsigned_abs}
 use Rattle.std.proofs.lemmas.Int.{ints}
 use Rattle.qm_math.specs.Fraction.{Fraction, whole, IsSame}
 use Rattle.qm_math.specs.Arithmetic.{sum_of, negated, difference_of, product_of, sign_of, inverse_of, quotient_of}
 use Rattle.qm_math.proofs.Whole.{*ℤ_swap}
 use Rattle.qm_math.proofs.Products.{cancel_same}
 use Rattle.qm_math.proofs.Polynomials.{number, ◌⊕◌, ◌⊗◌, minus}
-use Rattle.qm_math.proofs.Ring.{x0, x1, x2, x3, x4, x5, x6, x7, ring, ring_from, ring_from_two}
-use Rattle.qm_math.proofs.FractionRing.{same_by_ring}
+use Rattle.qm_math.proofs.Ring.{x0, x1, x2, x3, ring, ring_from}
+use Rattle.qm_math.proofs.FractionRing.{num_of, den_of, same_by_ring, same_from}
 
 -- ---- denominators stay above 0
 pub whole_den : (n : ℤ) → 0 < (whole n).den
@@ -127,25 +126,17 @@ product_of-negated a b = same_by_ring (a ∷ b ∷ []) (x0 ⊗ minus x1) (minus 
 
 -- ---- equals for equals
 pub sum_of-same : (a b c d : Fraction) → IsSame a c → IsSame b d → IsSame (sum_of a b) (sum_of c d)
-unfolding sum_of
 sum_of-same a b c d e k =
-    ring_from_two (a.num ∷ pos a.den ∷ b.num ∷ pos b.den ∷ c.num ∷ pos c.den ∷ d.num ∷ pos d.den ∷ [])
-    ((x0 ⊗ x3 ⊕ x2 ⊗ x1) ⊗ (x5 ⊗ x7)) ((x4 ⊗ x7 ⊕ x6 ⊗ x5) ⊗ (x1 ⊗ x3))
-    (x3 ⊗ x7) (x0 ⊗ x5) (x4 ⊗ x1) e
-    (x1 ⊗ x5) (x2 ⊗ x7) (x6 ⊗ x3) k refl
+    same_from (a ∷ b ∷ c ∷ d ∷ []) (x0 ⊕ x1) (x2 ⊕ x3)
+    ((den_of x1 ⊗ den_of x3, x0, x2) ∷ (den_of x0 ⊗ den_of x2, x1, x3) ∷ []) (e, (k, tt)) refl
 
 pub product_of-same : (a b c d : Fraction) → IsSame a c → IsSame b d → IsSame (product_of a b) (product_of c d)
-unfolding product_of
 product_of-same a b c d e k =
-    ring_from_two (a.num ∷ pos a.den ∷ b.num ∷ pos b.den ∷ c.num ∷ pos c.den ∷ d.num ∷ pos d.den ∷ [])
-    (x0 ⊗ x2 ⊗ (x5 ⊗ x7)) (x4 ⊗ x6 ⊗ (x1 ⊗ x3))
-    (x2 ⊗ x7) (x0 ⊗ x5) (x4 ⊗ x1) e
-    (x4 ⊗ x1) (x2 ⊗ x7) (x6 ⊗ x3) k refl
+    same_from (a ∷ b ∷ c ∷ d ∷ []) (x0 ⊗ x1) (x2 ⊗ x3)
+    ((num_of x1 ⊗ den_of x3, x0, x2) ∷ (num_of x2 ⊗ den_of x0, x1, x3) ∷ []) (e, (k, tt)) refl
 
 pub negated-same : (a b : Fraction) → IsSame a b → IsSame (negated a) (negated b)
-unfolding negated
-negated-same a b e =
-    ring_from (a.num ∷ pos a.den ∷ b.num ∷ pos b.den ∷ []) (minus x0 ⊗ x3) (minus x2 ⊗ x1) (number (negsuc 0)) (x0 ⊗ x3) (x2 ⊗ x1) e refl
+negated-same a b e = same_from (a ∷ b ∷ []) (minus x0) (minus x1) ((number (negsuc 0), x0, x1) ∷ []) (e, tt) refl
 
 pub difference_of-same : (a b c d : Fraction) → IsSame a c → IsSame b d → IsSame (difference_of a b) (difference_of c d)
 difference_of-same a b c d e k = sum_of-same a (negated b) c (negated d) e (negated-same b d k)
@@ -160,7 +151,7 @@ pub product_of-inverse_of : (a : Fraction) → IsSame (product_of a (inverse_of 
 unfolding product_of inverse_of
 product_of-inverse_of a =
     ring_from (a.num ∷ pos a.den ∷ sign_of a.num ∷ pos (unsigned_abs a.num) ∷ [])
-    (x0 ⊗ (x2 ⊗ x1) ⊗ number (pos 1)) (number (pos 1) ⊗ (x1 ⊗ x3)) x1 (x0 ⊗ x2) x3 (sign_times a.num) refl
+    (x0 ⊗ (x2 ⊗ x1) ⊗ number (pos 1)) (number (pos 1) ⊗ (x1 ⊗ x3)) ((x1, x0 ⊗ x2, x3) ∷ []) (sign_times a.num, tt) refl
 
 -- b times a / b is a, where b is not 0
 pub product_of-quotient_of : (a b : Fraction) → 0 < a.den → 0 < b.den → b.num ≢ pos 0 → IsSame (product_of b (quotient_of a b)) a

@@ -1,11 +1,11 @@
 -- The order of fractions: what sums, products and negatives keep, and what turns it round.
-use Rattle.std.proofs.Common.{◌≡◌, ◌∙◌, sym, refl, ap, ap₂, ℕ, ◌+◌, ◌*◌, ◌<◌, ◌≤◌, ◌⊎◌, ◌↔◌, arith, mul-pos, List, [], ◌∷◌, ℤ, pos, negsuc, ◌+ℤ◌, ◌*ℤ◌, neg_ℤ, ◌≤ℤ◌, ◌<ℤ◌}
+use Rattle.std.proofs.Common.{◌≡◌, sym, refl, ℕ, ◌*◌, ◌<◌, ◌↔◌, arith, mul-pos, [], ◌∷◌, ℤ, pos, ◌+ℤ◌, ◌*ℤ◌, ◌≤ℤ◌, ◌<ℤ◌}
 use Rattle.std.proofs.lemmas.Int.{ints}
 use Rattle.qm_math.specs.Fraction.{Fraction, whole, IsAtMost, IsBelow, IsSame}
 use Rattle.qm_math.specs.Arithmetic.{sum_of, negated, difference_of, product_of}
 use Rattle.qm_math.proofs.Whole.{cancel_le, cancel_lt}
 use Rattle.qm_math.proofs.Products.{*ℤ-le, *ℤ-le_turned, *ℤ-lt}
-use Rattle.qm_math.proofs.Polynomials.{Expression, number, ◌⊕◌, ◌⊗◌, minus, value, normal}
+use Rattle.qm_math.proofs.Polynomials.{◌⊕◌, ◌⊗◌, minus}
 use Rattle.qm_math.proofs.Ring.{x0, x1, x2, x3, x4, x5, x6, x7, ring, ring_le, ring_lt}
 use Rattle.qm_math.proofs.Compare.{at_most_trans, below_at_most, at_most_below}
 
@@ -56,8 +56,8 @@ sum_of-at_most a b c d h k =
     ((x0 ⊗ x3 ⊕ x2 ⊗ x1) ⊗ (x5 ⊗ x7)) ((x4 ⊗ x7 ⊕ x6 ⊗ x5) ⊗ (x1 ⊗ x3))
     (x3 ⊗ x7 ⊗ (x0 ⊗ x5) ⊕ x1 ⊗ x5 ⊗ (x2 ⊗ x7)) (x3 ⊗ x7 ⊗ (x4 ⊗ x1) ⊕ x1 ⊗ x5 ⊗ (x6 ⊗ x3))
     (le_sum
-      (pos (b.den * d.den) *ℤ (a.num *ℤ pos c.den)) (pos (b.den * d.den) *ℤ (c.num *ℤ pos a.den))
-      (pos (a.den * c.den) *ℤ (b.num *ℤ pos d.den)) (pos (a.den * c.den) *ℤ (d.num *ℤ pos b.den)) first second)
+    (pos (b.den * d.den) *ℤ (a.num *ℤ pos c.den)) (pos (b.den * d.den) *ℤ (c.num *ℤ pos a.den))
+    (pos (a.den * c.den) *ℤ (b.num *ℤ pos d.den)) (pos (a.den * c.den) *ℤ (d.num *ℤ pos b.den)) first second)
     refl
 
 pub sum_of-below : (a b c d : Fraction) → 0 < b.den → 0 < d.den → IsBelow a c → IsAtMost b d → IsBelow (sum_of a b) (sum_of c d)
@@ -69,8 +69,8 @@ sum_of-below a b c d hb hd h k =
     ((x0 ⊗ x3 ⊕ x2 ⊗ x1) ⊗ (x5 ⊗ x7)) ((x4 ⊗ x7 ⊕ x6 ⊗ x5) ⊗ (x1 ⊗ x3))
     (x3 ⊗ x7 ⊗ (x0 ⊗ x5) ⊕ x1 ⊗ x5 ⊗ (x2 ⊗ x7)) (x3 ⊗ x7 ⊗ (x4 ⊗ x1) ⊕ x1 ⊗ x5 ⊗ (x6 ⊗ x3))
     (lt_sum
-      (pos (b.den * d.den) *ℤ (a.num *ℤ pos c.den)) (pos (b.den * d.den) *ℤ (c.num *ℤ pos a.den))
-      (pos (a.den * c.den) *ℤ (b.num *ℤ pos d.den)) (pos (a.den * c.den) *ℤ (d.num *ℤ pos b.den)) first second)
+    (pos (b.den * d.den) *ℤ (a.num *ℤ pos c.den)) (pos (b.den * d.den) *ℤ (c.num *ℤ pos a.den))
+    (pos (a.den * c.den) *ℤ (b.num *ℤ pos d.den)) (pos (a.den * c.den) *ℤ (d.num *ℤ pos b.den)) first second)
     refl
 
 -- ---- negatives
@@ -162,19 +162,19 @@ unfolding sum_of
 at_most_by a b x y hx hy h e =
     cancel_le (a.num *ℤ pos b.den) (b.num *ℤ pos a.den) (x.den * y.den) (mul-pos hx hy)
     (from_sums ((a.num *ℤ pos b.den) *ℤ (pos x.den *ℤ pos y.den)) ((b.num *ℤ pos a.den) *ℤ (pos x.den *ℤ pos y.den))
-      ((pos b.den *ℤ pos a.den) *ℤ (x.num *ℤ pos y.den)) ((pos b.den *ℤ pos a.den) *ℤ (y.num *ℤ pos x.den))
-      (((a.num *ℤ pos y.den) +ℤ (y.num *ℤ pos a.den)) *ℤ (pos b.den *ℤ pos x.den))
-      (((b.num *ℤ pos x.den) +ℤ (x.num *ℤ pos b.den)) *ℤ (pos a.den *ℤ pos y.den))
-      (left_sum a b x y) (right_sum a b x y) (sym e)
-      (*ℤ-le (pos b.den *ℤ pos a.den) (x.num *ℤ pos y.den) (y.num *ℤ pos x.den) (pos_nonneg (b.den * a.den)) h))
+    ((pos b.den *ℤ pos a.den) *ℤ (x.num *ℤ pos y.den)) ((pos b.den *ℤ pos a.den) *ℤ (y.num *ℤ pos x.den))
+    (((a.num *ℤ pos y.den) +ℤ (y.num *ℤ pos a.den)) *ℤ (pos b.den *ℤ pos x.den))
+    (((b.num *ℤ pos x.den) +ℤ (x.num *ℤ pos b.den)) *ℤ (pos a.den *ℤ pos y.den))
+    (left_sum a b x y) (right_sum a b x y) (sym e)
+    (*ℤ-le (pos b.den *ℤ pos a.den) (x.num *ℤ pos y.den) (y.num *ℤ pos x.den) (pos_nonneg (b.den * a.den)) h))
 
 pub below_by : (a b x y : Fraction) → 0 < a.den → 0 < b.den → IsBelow x y → IsSame (sum_of b x) (sum_of a y) → IsBelow a b
 unfolding sum_of
 below_by a b x y ha hb h e =
     cancel_lt (a.num *ℤ pos b.den) (b.num *ℤ pos a.den) (x.den * y.den)
     (from_sums_lt ((a.num *ℤ pos b.den) *ℤ (pos x.den *ℤ pos y.den)) ((b.num *ℤ pos a.den) *ℤ (pos x.den *ℤ pos y.den))
-      ((pos b.den *ℤ pos a.den) *ℤ (x.num *ℤ pos y.den)) ((pos b.den *ℤ pos a.den) *ℤ (y.num *ℤ pos x.den))
-      (((a.num *ℤ pos y.den) +ℤ (y.num *ℤ pos a.den)) *ℤ (pos b.den *ℤ pos x.den))
-      (((b.num *ℤ pos x.den) +ℤ (x.num *ℤ pos b.den)) *ℤ (pos a.den *ℤ pos y.den))
-      (left_sum a b x y) (right_sum a b x y) (sym e)
-      (*ℤ-lt (pos b.den *ℤ pos a.den) (x.num *ℤ pos y.den) (y.num *ℤ pos x.den) (pos_above (b.den * a.den) (mul-pos hb ha)) h))
+    ((pos b.den *ℤ pos a.den) *ℤ (x.num *ℤ pos y.den)) ((pos b.den *ℤ pos a.den) *ℤ (y.num *ℤ pos x.den))
+    (((a.num *ℤ pos y.den) +ℤ (y.num *ℤ pos a.den)) *ℤ (pos b.den *ℤ pos x.den))
+    (((b.num *ℤ pos x.den) +ℤ (x.num *ℤ pos b.den)) *ℤ (pos a.den *ℤ pos y.den))
+    (left_sum a b x y) (right_sum a b x y) (sym e)
+    (*ℤ-lt (pos b.den *ℤ pos a.den) (x.num *ℤ pos y.den) (y.num *ℤ pos x.den) (pos_above (b.den * a.den) (mul-pos hb ha)) h))

@@ -1,14 +1,14 @@
 -- Equations of fractions, proved by computing normal forms of both sides multiplied out.
 -- `same_by_ring items a b refl` proves an equation of a ring: the items are the fractions that the expressions name as x0, x1 and so on.
-use Rattle.std.proofs.Common.{◌≡◌, ◌∙◌, sym, refl, ap, ap₂, subst, ℕ, zero, suc, ◌+◌, List, [], ◌∷◌, arith, ℤ, pos, negsuc, ◌+ℤ◌, ◌*ℤ◌, neg_ℤ}
+use Rattle.std.proofs.Common.{◌≡◌, ◌∙◌, sym, refl, ap, ap₂, ℕ, zero, suc, ◌+◌, List, [], ◌∷◌, arith, ℤ, pos, ◌+ℤ◌, ◌*ℤ◌, neg_ℤ}
 use Rattle.qm_math.specs.Fraction.{Fraction, whole, IsSame}
 use Rattle.qm_math.specs.Arithmetic.{sum_of, negated, product_of}
 use Rattle.qm_math.proofs.Polynomials.{Expression, item, number, ◌⊕◌, ◌⊗◌, minus, pick, value, normal}
-use Rattle.qm_math.proofs.Ring.{ring}
+use Rattle.qm_math.proofs.Ring.{ring, Known, AllHold, lefts, rights, ring_from}
 
--- the fraction of a number in a list
+-- the item of a number, and 1 past the end
 abbrev pub pick_fraction : List Fraction → ℕ → Fraction
-pick_fraction [] n = record { num = pos 0; den = 0 }
+pick_fraction [] n = whole (pos 1)
 pick_fraction (x ∷ items) zero = x
 pick_fraction (x ∷ items) (suc n) = pick_fraction items n
 
@@ -80,3 +80,28 @@ pub same_by_ring : (items : List Fraction) (a b : Expression)
     → normal (num_of a ⊗ den_of b) ≡ normal (num_of b ⊗ den_of a) → IsSame (fraction_value items a) (fraction_value items b)
 same_by_ring items a b e =
     sym (cross_value items a b) ∙ ring (parts items) (num_of a ⊗ den_of b) (num_of b ⊗ den_of a) e ∙ cross_value items b a
+
+-- ---- from known equations
+-- each known equation of fractions holds
+abbrev pub AllSame : List Fraction → List Known → Type 0
+AllSame items [] = Unit {0}
+AllSame items (s ∷ known) = IsSame (fraction_value items s.1) (fraction_value items s.2) × AllSame items known
+
+-- the known equations multiplied out; their multipliers speak of numerators and denominators already
+abbrev pub crossed : List Known → List Known
+crossed [] = []
+crossed (s ∷ known) = (s.0, num_of s.1 ⊗ den_of s.2, num_of s.2 ⊗ den_of s.1) ∷ crossed known
+
+crossed_hold : (items : List Fraction) (known : List Known) → AllSame items known → AllHold (parts items) (crossed known)
+crossed_hold items [] h = tt
+crossed_hold items (s ∷ known) h =
+    (cross_value items s.1 s.2 ∙ h.0 ∙ sym (cross_value items s.2 s.1), crossed_hold items known h.1)
+
+-- a is the same as b if known equations make up the difference, multiplied out
+pub same_from : (items : List Fraction) (a b : Expression) (known : List Known) → AllSame items known
+    → normal (num_of a ⊗ den_of b ⊕ rights (crossed known)) ≡ normal (num_of b ⊗ den_of a ⊕ lefts (crossed known))
+    → IsSame (fraction_value items a) (fraction_value items b)
+same_from items a b known h e =
+    sym (cross_value items a b)
+    ∙ ring_from (parts items) (num_of a ⊗ den_of b) (num_of b ⊗ den_of a) (crossed known) (crossed_hold items known h) e
+    ∙ cross_value items b a

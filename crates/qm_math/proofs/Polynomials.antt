@@ -15,10 +15,9 @@ pub data Expression : Type 0 where
 
 infixl 6 ◌⊕◌
 infixl 7 ◌⊗◌
-
--- the item of a number, and 0 past the end
+-- the item of a number, and 1 past the end
 abbrev pub pick : List ℤ → ℕ → ℤ
-pick [] n = pos 0
+pick [] n = pos 1
 pick (x ∷ items) zero = x
 pick (x ∷ items) (suc n) = pick items n
 
@@ -215,4 +214,3 @@ normal_value items (a ⊕ b) =
 normal_value items (a ⊗ b) =
     multiply_value items (normal a) (normal b) ∙ ap₂ (λ x y. x *ℤ y) (normal_value items a) (normal_value items b)
 normal_value items (minus a) = negative_value items (normal a) ∙ ap neg_ℤ (normal_value items a)
-

@@ -1,9 +1,9 @@
 -- Products of whole numbers: their laws, their signs, and the orders that they keep.
-use Rattle.std.proofs.Common.{◌≡◌, ◌∙◌, sym, refl, ap, ap₂, ℕ, suc, ◌+◌, ◌*◌, ◌≤◌, ◌<◌, ◌⊎◌, inl, inr, ⊎_elim, arith, mul-le-mul, ℤ, pos, negsuc, ◌+ℤ◌, ◌-ℤ◌, ◌*ℤ◌, neg_ℤ, ◌≤ℤ◌, ◌<ℤ◌, unsigned_abs}
+use Rattle.std.proofs.Common.{◌≡◌, ◌∙◌, sym, ap, ap₂, ℕ, ◌*◌, ◌<◌, ◌⊎◌, inl, inr, arith, ℤ, pos, negsuc, ◌+ℤ◌, ◌-ℤ◌, ◌*ℤ◌, neg_ℤ, ◌≤ℤ◌, ◌<ℤ◌}
 use Rattle.std.proofs.Math.IntN.{*ℤ_comm}
-use Rattle.std.proofs.lemmas.Int.{ints, by_lt_z, unsigned_abs-mul}
+use Rattle.std.proofs.lemmas.Int.{ints, by_lt_z}
 use borrow.Author.Differences.{up, down, neg_is}
-use Rattle.qm_math.proofs.Whole.{add-*ℤ, *ℤ_assoc, scaled_le, scaled_lt, cancel_le, cancel_lt}
+use Rattle.qm_math.proofs.Whole.{add-*ℤ, *ℤ_assoc, cancel_le}
 
 -- ---- a ring
 pub one-*ℤ : (a : ℤ) → pos 1 *ℤ a ≡ a
@@ -89,14 +89,14 @@ pub zero_product : (a b : ℤ) → a *ℤ b ≡ pos 0 → (a ≡ pos 0) ⊎ (b �
 zero_product a b e =
     by_lt_z (pos 0) a
     (λ more. inr (by_lt_z (pos 0) b
-      (λ up_b. absurd (omega (arith, ints, *ℤ-lt a (pos 0) b more up_b, e)))
-      (λ not_up. by_lt_z b (pos 0)
-        (λ down_b. absurd (omega (arith, ints, *ℤ-lt a b (pos 0) more down_b, e)))
-        (λ not_down. omega (arith, ints, not_up, not_down)))))
+    (λ up_b. absurd (omega (arith, ints, *ℤ-lt a (pos 0) b more up_b, e)))
+    (λ not_up. by_lt_z b (pos 0)
+    (λ down_b. absurd (omega (arith, ints, *ℤ-lt a b (pos 0) more down_b, e)))
+    (λ not_down. omega (arith, ints, not_up, not_down)))))
     (λ not_more. by_lt_z a (pos 0)
-      (λ less. inr (by_lt_z (pos 0) b
-        (λ up_b. absurd (omega (arith, ints, *ℤ-lt b a (pos 0) up_b less, *ℤ_comm a b, e)))
-        (λ not_up. by_lt_z b (pos 0)
-          (λ down_b. absurd (omega (arith, ints, *ℤ-lt (neg_ℤ a) b (pos 0) (omega (arith, ints, less)) down_b, neg-*ℤ a b, e)))
-          (λ not_down. omega (arith, ints, not_up, not_down)))))
-      (λ not_less. inl (omega (arith, ints, not_more, not_less))))
+    (λ less. inr (by_lt_z (pos 0) b
+    (λ up_b. absurd (omega (arith, ints, *ℤ-lt b a (pos 0) up_b less, *ℤ_comm a b, e)))
+    (λ not_up. by_lt_z b (pos 0)
+    (λ down_b. absurd (omega (arith, ints, *ℤ-lt (neg_ℤ a) b (pos 0) (omega (arith, ints, less)) down_b, neg-*ℤ a b, e)))
+    (λ not_down. omega (arith, ints, not_up, not_down)))))
+    (λ not_less. inl (omega (arith, ints, not_more, not_less))))

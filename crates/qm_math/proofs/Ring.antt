@@ -1,8 +1,8 @@
 -- Equations and orders of whole numbers, proved by computing normal forms.
 -- `ring items a b refl` proves an equation of a ring: the items are the numbers that the expressions name as x0, x1 and so on.
-use Rattle.std.proofs.Common.{◌≡◌, ◌∙◌, sym, ap, List, arith, ℤ, pos, ◌+ℤ◌, ◌*ℤ◌, ◌≤ℤ◌, ◌<ℤ◌}
+use Rattle.std.proofs.Common.{◌≡◌, ◌∙◌, sym, refl, ap, ap₂, List, [], ◌∷◌, arith, ℤ, pos, ◌+ℤ◌, ◌*ℤ◌, ◌≤ℤ◌, ◌<ℤ◌}
 use Rattle.std.proofs.lemmas.Int.{ints}
-use Rattle.qm_math.proofs.Polynomials.{Expression, item, ◌⊕◌, ◌⊗◌, value, normal, sum_of_terms, normal_value}
+use Rattle.qm_math.proofs.Polynomials.{Expression, item, number, ◌⊕◌, ◌⊗◌, value, normal, sum_of_terms, normal_value}
 
 abbrev pub x0 : Expression
 x0 = item 0
@@ -38,29 +38,86 @@ x9 = item 9
 pub ring : (items : List ℤ) (a b : Expression) → normal a ≡ normal b → value items a ≡ value items b
 ring items a b e = sym (normal_value items a) ∙ ap (sum_of_terms items) e ∙ normal_value items b
 
--- a equals b if a known equation x = y, times k, makes up the difference
-pub ring_from : (items : List ℤ) (a b k x y : Expression)
-    → value items x ≡ value items y → normal (a ⊕ k ⊗ y) ≡ normal (b ⊕ k ⊗ x) → value items a ≡ value items b
-ring_from items a b k x y h e =
-    let whole_sum : value items a +ℤ (value items k *ℤ value items y) ≡ value items b +ℤ (value items k *ℤ value items x) = ring items (a ⊕ k ⊗ y) (b ⊕ k ⊗ x) e in
-    let scaled : value items k *ℤ value items x ≡ value items k *ℤ value items y = ap (λ v. value items k *ℤ v) h in
-    summed (value items a) (value items b) (value items k *ℤ value items x) (value items k *ℤ value items y) whole_sum scaled
-  where
-  summed : (a b x y : ℤ) → a +ℤ y ≡ b +ℤ x → x ≡ y → a ≡ b
-  summed a b x y e h = omega (arith, ints)
+-- ---- from known equations
+-- a multiplier and the two sides of a known equation
+abbrev pub Known : Type 0
+Known = Expression × Expression × Expression
 
--- the same from two known equations
-pub ring_from_two : (items : List ℤ) (a b k x y : Expression) → value items x ≡ value items y
-    → (l v w : Expression) → value items v ≡ value items w
-    → normal (a ⊕ (k ⊗ y ⊕ l ⊗ w)) ≡ normal (b ⊕ (k ⊗ x ⊕ l ⊗ v)) → value items a ≡ value items b
-ring_from_two items a b k x y h l v w g e =
-    summed (value items a) (value items b) (value items k *ℤ value items x) (value items k *ℤ value items y)
-    (value items l *ℤ value items v) (value items l *ℤ value items w)
-    (ring items (a ⊕ (k ⊗ y ⊕ l ⊗ w)) (b ⊕ (k ⊗ x ⊕ l ⊗ v)) e)
-    (ap (λ n. value items k *ℤ n) h) (ap (λ n. value items l *ℤ n) g)
+-- each known equation holds
+abbrev pub AllHold : List ℤ → List Known → Type 0
+AllHold items [] = Unit {0}
+AllHold items (s ∷ known) = (value items s.1 ≡ value items s.2) × AllHold items known
+
+-- the known left sides, and the right sides, each times its multiplier, added up
+abbrev pub lefts : List Known → Expression
+lefts [] = number (pos 0)
+lefts (s ∷ known) = s.0 ⊗ s.1 ⊕ lefts known
+
+abbrev pub rights : List Known → Expression
+rights [] = number (pos 0)
+rights (s ∷ known) = s.0 ⊗ s.2 ⊕ rights known
+
+lefts_are_rights : (items : List ℤ) (known : List Known) → AllHold items known → value items (lefts known) ≡ value items (rights known)
+lefts_are_rights items [] h = refl
+lefts_are_rights items (s ∷ known) h =
+    ap₂ (λ x y. (value items s.0 *ℤ x) +ℤ y) h.0 (lefts_are_rights items known h.1)
+
+-- a equals b if known equations, each times a multiplier, make up the difference
+pub ring_from : (items : List ℤ) (a b : Expression) (known : List Known) → AllHold items known
+    → normal (a ⊕ rights known) ≡ normal (b ⊕ lefts known) → value items a ≡ value items b
+ring_from items a b known h e =
+    summed (value items a) (value items b) (value items (lefts known)) (value items (rights known))
+    (ring items (a ⊕ rights known) (b ⊕ lefts known) e) (lefts_are_rights items known h)
   where
-  summed : (a b x y v w : ℤ) → a +ℤ (y +ℤ w) ≡ b +ℤ (x +ℤ v) → x ≡ y → v ≡ w → a ≡ b
-  summed a b x y v w e h g = omega (arith, ints)
+    summed : (a b x y : ℤ) → a +ℤ y ≡ b +ℤ x → x ≡ y → a ≡ b
+    summed a b x y e h = omega (arith, ints)
+
+-- ---- from known orders
+-- the lesser and the greater side of a known order
+abbrev pub Order : Type 0
+Order = Expression × Expression
+
+-- each known order holds
+abbrev pub AllLe : List ℤ → List Order → Type 0
+AllLe items [] = Unit {0}
+AllLe items (o ∷ orders) = (value items o.0 ≤ℤ value items o.1) × AllLe items orders
+
+abbrev pub lessers : List Order → Expression
+lessers [] = number (pos 0)
+lessers (o ∷ orders) = o.0 ⊕ lessers orders
+
+abbrev pub greaters : List Order → Expression
+greaters [] = number (pos 0)
+greaters (o ∷ orders) = o.1 ⊕ greaters orders
+
+lessers_le : (items : List ℤ) (orders : List Order) → AllLe items orders → value items (lessers orders) ≤ℤ value items (greaters orders)
+lessers_le items [] h = omega (arith, ints)
+lessers_le items (o ∷ orders) h =
+    le_sum (value items o.0) (value items o.1) (value items (lessers orders)) (value items (greaters orders)) h.0 (lessers_le items orders h.1)
+  where
+    le_sum : (a b c d : ℤ) → a ≤ℤ b → c ≤ℤ d → (a +ℤ c) ≤ℤ (b +ℤ d)
+    le_sum a b c d h k = omega (arith, ints)
+
+-- a is at most b if known equations and orders make up the difference
+pub le_from : (items : List ℤ) (a b : Expression) (known : List Known) (orders : List Order) → AllHold items known → AllLe items orders
+    → normal (b ⊕ (lefts known ⊕ lessers orders)) ≡ normal (a ⊕ (rights known ⊕ greaters orders)) → value items a ≤ℤ value items b
+le_from items a b known orders h o e =
+    summed (value items a) (value items b) (value items (lefts known)) (value items (rights known)) (value items (lessers orders)) (value items (greaters orders))
+    (ring items (b ⊕ (lefts known ⊕ lessers orders)) (a ⊕ (rights known ⊕ greaters orders)) e) (lefts_are_rights items known h) (lessers_le items orders o)
+  where
+    summed : (a b u v x y : ℤ) → b +ℤ (u +ℤ x) ≡ a +ℤ (v +ℤ y) → u ≡ v → x ≤ℤ y → a ≤ℤ b
+    summed a b u v x y e h o = omega (arith, ints)
+
+-- x below y is the one order known to be strict
+pub lt_from : (items : List ℤ) (a b x y : Expression) (known : List Known) (orders : List Order) → value items x <ℤ value items y → AllHold items known → AllLe items orders
+    → normal (b ⊕ (x ⊕ (lefts known ⊕ lessers orders))) ≡ normal (a ⊕ (y ⊕ (rights known ⊕ greaters orders))) → value items a <ℤ value items b
+lt_from items a b x y known orders strict h o e =
+    summed (value items a) (value items b) (value items (lefts known)) (value items (rights known)) (value items (lessers orders)) (value items (greaters orders))
+    (value items x) (value items y)
+    (ring items (b ⊕ (x ⊕ (lefts known ⊕ lessers orders))) (a ⊕ (y ⊕ (rights known ⊕ greaters orders))) e) (lefts_are_rights items known h) (lessers_le items orders o) strict
+  where
+    summed : (a b u v s t x y : ℤ) → b +ℤ (x +ℤ (u +ℤ s)) ≡ a +ℤ (y +ℤ (v +ℤ t)) → u ≡ v → s ≤ℤ t → x <ℤ y → a <ℤ b
+    summed a b u v s t x y e h o strict = omega (arith, ints)
 
 -- a is at most b if a known order x ≤ y makes up the difference
 pub ring_le : (items : List ℤ) (a b x y : Expression)
@@ -68,13 +125,13 @@ pub ring_le : (items : List ℤ) (a b x y : Expression)
 ring_le items a b x y h e =
     summed (value items a) (value items b) (value items x) (value items y) (ring items (b ⊕ x) (a ⊕ y) e) h
   where
-  summed : (a b x y : ℤ) → b +ℤ x ≡ a +ℤ y → x ≤ℤ y → a ≤ℤ b
-  summed a b x y e h = omega (arith, ints)
+    summed : (a b x y : ℤ) → b +ℤ x ≡ a +ℤ y → x ≤ℤ y → a ≤ℤ b
+    summed a b x y e h = omega (arith, ints)
 
 pub ring_lt : (items : List ℤ) (a b x y : Expression)
     → value items x <ℤ value items y → normal (b ⊕ x) ≡ normal (a ⊕ y) → value items a <ℤ value items b
 ring_lt items a b x y h e =
     summed (value items a) (value items b) (value items x) (value items y) (ring items (b ⊕ x) (a ⊕ y) e) h
   where
-  summed : (a b x y : ℤ) → b +ℤ x ≡ a +ℤ y → x <ℤ y → a <ℤ b
-  summed a b x y e h = omega (arith, ints)
+    summed : (a b x y : ℤ) → b +ℤ x ≡ a +ℤ y → x <ℤ y → a <ℤ b
+    summed a b x y e h = omega (arith, ints)

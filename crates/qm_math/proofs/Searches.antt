@@ -53,7 +53,7 @@ count_is : (z : ℤ) → z ≤ℤ pos 0 → count_of z ≡ 0
 count_is (pos n) h = omega (arith, ints, h)
 count_is (negsuc n) h = refl
 
-count_pos : (z : ℤ) → pos 0 ≤ℤ z → pos (count_of z) ≡ z
+pub count_pos : (z : ℤ) → pos 0 ≤ℤ z → pos (count_of z) ≡ z
 count_pos (pos n) h = refl
 count_pos (negsuc n) h = absurd (omega (arith, ints, h))
 

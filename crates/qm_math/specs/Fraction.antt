@@ -1,10 +1,14 @@
 -- Fractions of whole numbers without a bound on their size, compared multiplied out.
-use Rattle.std.specs.Prelude.{◌≡◌, ℕ, ℤ, pos, ◌*ℤ◌, ◌≤ℤ◌, ◌<ℤ◌, Bool, int_le, int_lt}
+use Rattle.std.specs.Prelude.{◌≡◌, ℕ, ℤ, pos, ◌*ℤ◌, ◌≤ℤ◌, ◌<ℤ◌, ◌<◌, Bool, int_le, int_lt}
 
 -- num / den, where den is above 0
 pub record Fraction : Type 0 where
   pub num : ℤ
   pub den : ℕ
+
+-- as each fraction is meant to be
+abbrev pub HasPositiveDen : Fraction → Type 0
+HasPositiveDen a = 0 < a.den
 
 abbrev pub whole : ℤ → Fraction
 whole n = record { num = n; den = 1 }

@@ -1,5 +1,12 @@
 pub mod Fraction
 pub mod Arithmetic
+pub mod Rounding
 pub mod Ranges
+pub mod Counts
+pub mod Ends
 pub mod Sums
+pub mod Over
 pub mod Totals
+pub mod Combinations
+pub mod Pivots
+pub mod Lexicographic

@@ -10,8 +10,3 @@ sum_from f first (a ∷ items) = f first a +ℤ sum_from f (suc first) items
 abbrev pub sum_of_each : {A : Type 0} → (A → ℤ) → List A → ℤ
 sum_of_each f [] = pos 0
 sum_of_each f (a ∷ items) = f a +ℤ sum_of_each f items
-
--- the items, each with its number
-abbrev pub numbered_from : {A : Type 0} → ℕ → List A → List (ℕ × A)
-numbered_from first [] = []
-numbered_from first (a ∷ items) = (first, a) ∷ numbered_from (suc first) items

@@ -9,13 +9,13 @@ total_of f [] = whole (pos 0)
 total_of f (a ∷ items) = sum_of (f a) (total_of f items)
 
 -- each coefficient times the value in its place, added up; the shorter list ends the sum
-abbrev pub combined : List Fraction → List Fraction → Fraction
-combined [] values = whole (pos 0)
-combined (k ∷ ks) [] = whole (pos 0)
-combined (k ∷ ks) (v ∷ vs) = sum_of (product_of k v) (combined ks vs)
+abbrev pub sum_of_products : List Fraction → List Fraction → Fraction
+sum_of_products [] values = whole (pos 0)
+sum_of_products (k ∷ ks) [] = whole (pos 0)
+sum_of_products (k ∷ ks) (v ∷ vs) = sum_of (product_of k v) (sum_of_products ks vs)
 
 -- from each number of a row, factor times the number of the other row in its place is taken away
-abbrev pub reduced : List Fraction → Fraction → List Fraction → List Fraction
-reduced [] factor others = []
-reduced (k ∷ ks) factor [] = k ∷ ks
-reduced (k ∷ ks) factor (o ∷ others) = difference_of k (product_of factor o) ∷ reduced ks factor others
+abbrev pub reduced_row : List Fraction → Fraction → List Fraction → List Fraction
+reduced_row [] factor others = []
+reduced_row (k ∷ ks) factor [] = k ∷ ks
+reduced_row (k ∷ ks) factor (o ∷ others) = difference_of k (product_of factor o) ∷ reduced_row ks factor others

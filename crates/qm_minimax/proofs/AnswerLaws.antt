@@ -1,5 +1,5 @@
 -- What the greater and the lesser of two answers reach.
-use Rattle.std.proofs.Common.{◌≡◌, ℕ, true, false, cond, arith, refl, sym, subst, inl, inr, ◌⊎◌, ℤ, ◌≤ℤ◌, ◌↔◌, Option, Some, None}
+use Rattle.std.proofs.Common.{◌≡◌, true, false, cond, arith, refl, sym, subst, inl, inr, ◌⊎◌, ℤ, ◌≤ℤ◌, ◌↔◌, Option, Some, None}
 use Rattle.std.proofs.lemmas.Int.{ints, clamps}
 use Rattle.std.specs.Int.{int_max, int_min}
 use Rattle.std.specs.Prelude.{int_lt}

@@ -1,15 +1,12 @@
 -- Where all variables of a plain problem are set.
-use Rattle.std.proofs.Common.{◌≡◌, ℕ, ◌+◌, ◌≤◌, ◌^◌, List, [], ◌∷◌, ◌++◌, length, map, All, arith, refl, sym, ap, ◌∙◌, unsigned_abs, ℤ, pos, ◌+ℤ◌, ◌*ℤ◌, Some, None, append-nil, get_or}
-use Rattle.std.proofs.lemmas.Int.{ints}
+use Rattle.std.proofs.Common.{◌≡◌, ℕ, List, [], ◌∷◌, ◌++◌, map, All, arith, refl, sym, ap, ◌∙◌, unsigned_abs, ℤ, pos, ◌+ℤ◌, ◌*ℤ◌, Some, None, append-nil, get_or}
 use Rattle.std.proofs.lemmas.List.{drop_all}
 use Rattle.qm_math.proofs.Whole.{add-*ℤ}
-use Rattle.qm_model.specs.declared.row.Row.{Row}
 use Rattle.qm_model.specs.declared.variable.Var.{Var}
 use Rattle.qm_model.specs.declared.game.Problem.{Problem}
 use Rattle.qm_model.specs.Linear.{form}
 use Rattle.qm_model.specs.Plays.{HoldsAt}
 use Rattle.qm_model.specs.Points.{Point, values_over, continuous_vars, AreWithinOver, Meets}
-use Rattle.qm_model.specs.Wins.{WinsAtEnd}
 use Rattle.qm_minimax.specs.Plain.{IsPlain}
 use Rattle.qm_minimax.specs.Answers.{HasValue}
 use Rattle.qm_minimax.proofs.Scaled.{form-scaled, holds_scaled, reaches_scaled}

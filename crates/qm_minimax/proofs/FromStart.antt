@@ -1,5 +1,5 @@
 -- The answer from the empty prefix tells the ending of the problem.
-use Rattle.std.proofs.Common.{[], ◌++◌, arith, sym, subst, ℤ, Option, Some, None, unsigned_abs}
+use Rattle.std.proofs.Common.{[], ◌++◌, arith, sym, subst, ℤ, Option, Some, None}
 use Rattle.std.proofs.lemmas.Int.{ints}
 use Rattle.qm_model.specs.declared.game.Problem.{Problem}
 use Rattle.qm_model.specs.Plays.{whole_vars}

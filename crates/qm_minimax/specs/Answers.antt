@@ -1,5 +1,5 @@
 -- Answers of the search: the numerator of what is reached over the problem's scale, or nothing.
-use Rattle.std.specs.Prelude.{ℕ, ℤ, ◌↔◌, List, unsigned_abs, Option, Some, None}
+use Rattle.std.specs.Prelude.{ℤ, ◌↔◌, List, unsigned_abs, Option, Some, None}
 use Rattle.std.specs.Int.{int_max, int_min}
 use Rattle.qm_math.specs.Fraction.{Fraction}
 use Rattle.qm_model.specs.declared.variable.Var.{Var}

@@ -4,7 +4,7 @@ use Rattle.std.specs.Io.KnownBytes.{Consumes, IsAtEnd}
 use Rattle.qm_math.specs.Fraction.{Fraction, whole}
 use Rattle.qm_model.specs.declared.game.Problem.{Problem}
 use Rattle.qm_model.specs.Endings.{HasEnding, IsOptimal, Optimal}
-use Rattle.qm_minimax.specs.Plain.{ending_of}
+use Rattle.qm_minimax.specs.Answers.{ending_of}
 use Rattle.qm_parse.specs.Small.{IsSmallText}
 use Rattle.qm_top.specs.declared.command.Command.{Command}
 use Rattle.qm_top.specs.declared.command.Command.TheVariants.{Solve}

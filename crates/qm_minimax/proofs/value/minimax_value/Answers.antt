@@ -1,5 +1,3 @@
-use Rattle.std.proofs.Common.{[], ◌∙◌, ap, subst}
-use Rattle.qm_minimax.specs.Answers.{HasValue}
 use Rattle.qm_minimax.proofs.FromStart.{ending_from_value}
 use Rattle.qm_minimax.proofs.value.minimax_value.Goals as goal
 

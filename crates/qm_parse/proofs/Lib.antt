@@ -1,0 +1,14 @@
+pub mod Items
+pub mod ReadIsWritten
+pub mod Shrinks
+pub mod Steps
+pub mod TextWords
+pub mod WrittenIsRead
+pub mod Standing
+pub mod Fitting
+pub mod Totals
+pub mod Nonzero
+pub mod Counting
+pub mod Soundness
+pub mod Making
+pub mod SmallTexts
