@@ -11,3 +11,4 @@ pub mod RefuteJudgement
 pub mod RefuteRight
 pub mod EmptyJudgement
 pub mod EmptyRight
+pub mod Passing
