@@ -1,5 +1,6 @@
-ghost use Rattle.std.specs.Prelude.{◌≡◌, ◌+◌, ◌<◌, ◌+ℤ◌, pos, drop, length};
-ghost use Rattle.qm_trees.specs.Ranges.{counts_right, follows_on, is_in, is_last_before, range_at, single};
+ghost use Rattle.std.specs.Prelude.{◌≡◌, ◌+◌, ◌<◌, ◌+ℤ◌, ◌&&◌, int_le, pos, drop, length};
+ghost use Rattle.std.specs.Ordering.{int_eq};
+ghost use Rattle.qm_trees.specs.Ranges.{counts_right, follows_on, is_in, is_last_before, range_at, same, single};
 
 use qm_game::Range;
 use qm_trees::PolicyPart;
@@ -44,14 +45,31 @@ pub fn is_last(parts: &[PolicyPart], at: usize) -> bool
     at + 1 == parts.len()
 }
 
-/// Whether the range begins at `next`, has a value, and reaches the end exactly if it is the last.
+fn equal(a: i64, b: i64) -> bool
+    ensures { result ≡ int_eq a b }
+{
+    a == b
+}
+
+/// Whether the range begins at `next` and has a value.
+fn begins(next: i128, range: Range) -> bool
+    ensures { result ≡ (int_eq range.low next && int_le range.low range.high) }
+{
+    i128::from(range.low) == next && range.low <= range.high
+}
+
+/// Whether the range stays below the high end, and reaches it exactly if it is the last.
+fn ends(covered: Range, is_last: bool, range: Range) -> bool
+    ensures { result ≡ (int_le range.high covered.high && same is_last (int_eq range.high covered.high)) }
+{
+    range.high <= covered.high && is_last == equal(range.high, covered.high)
+}
+
+/// Whether the range begins at `next`, has a value, and reaches the high end exactly if it is the last.
 pub fn follows(next: i128, covered: Range, is_last: bool, range: Range) -> bool
     ensures { result ≡ follows_on next covered.high is_last range }
 {
-    i128::from(range.low) == next
-        && range.low <= range.high
-        && range.high <= covered.high
-        && is_last == (range.high == covered.high)
+    begins(next, range) && ends(covered, is_last, range)
 }
 
 /// The low end.

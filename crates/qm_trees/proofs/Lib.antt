@@ -1,3 +1,5 @@
 pub mod Lines
 pub mod CoverLines
 pub mod LeafLines
+pub mod PolicyLines
+pub mod LeafPoints

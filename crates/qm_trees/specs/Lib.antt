@@ -12,3 +12,4 @@ pub mod RefuteRight
 pub mod EmptyJudgement
 pub mod EmptyRight
 pub mod Passing
+pub mod Reaching
