@@ -1,9 +1,11 @@
-ghost use Rattle.std.specs.Prelude.{◌≡◌, ◌+◌, ◌^◌, ◌<◌, All, length, unsigned_abs};
+ghost use Rattle.std.specs.Prelude.{◌≡◌, ◌+◌, ◌^◌, ◌<◌, ◌≤◌, All, length, unsigned_abs};
 ghost use Rattle.qm_model.specs.Linear.{HasVarsBelow};
 ghost use Rattle.qm_model.specs.Sound.{IsSound};
 ghost use Rattle.qm_trees.specs.Evaluation.{zero};
 ghost use Rattle.qm_trees.specs.Leaves.{add_terms, are_in_bounds, leaf_passes, objective_reaches, row_holds, rows_hold, value_at};
+ghost use Rattle.qm_model.specs.Points.{continuous_vars};
 ghost use Rattle.qm_policy.specs.Sides.{end_by};
+ghost use Rattle.qm_policy.specs.Steps.{add_term, objective_from};
 
 use crate::fractions::{at_most, whole};
 use crate::sides::{Side, term_value};
@@ -24,6 +26,25 @@ fn in_bounds(vars: &[Var], point: &[Frac]) -> bool
     true
 }
 
+/// The sum so far and the term's product. Leaves where the product or the sum leaves.
+fn add_term(
+    side: Side,
+    problem: &Problem,
+    bx: &[Range],
+    point: &[Frac],
+    term: Term,
+    sum: Frac,
+) -> Result<Frac, Leaves>
+    requires var { term.var < length bx.now }
+    requires size { unsigned_abs term.coef < 2 ^ 127 }
+    requires point { length bx.now ≡ problem.now.wholes + length point.now }
+    ensures { result ≡ add_term (value_at (end_by side) problem.now bx.now point.now) term sum }
+{
+    let value = term_value(side, problem, bx, point, term);
+    let product = whole(term.coef).mul(value)?;
+    sum.add(product)
+}
+
 /// The sum of the terms, each at its least or at its greatest value. Leaves where the first operation leaves.
 fn sum_at(
     side: Side,
@@ -39,9 +60,7 @@ fn sum_at(
 {
     let mut sum = Frac::whole(0);
     for term in terms {
-        let value = term_value(side, problem, bx, point, *term);
-        let product = whole(term.coef).mul(value)?;
-        sum = sum.add(product)?;
+        sum = add_term(side, problem, bx, point, *term, sum)?;
     }
     Ok(sum)
 }
@@ -74,6 +93,15 @@ fn rows_hold(problem: &Problem, bx: &[Range], point: &[Frac], rows: &[Row]) -> R
     Ok(true)
 }
 
+/// A sum of the objective's terms, with the constant and over the scale.
+fn objective_of(problem: &Problem, sum: Frac) -> Result<Frac, Leaves>
+    requires { IsSound problem.now }
+    ensures { result ≡ objective_from problem.now sum }
+{
+    let total = sum.add(whole(problem.constant))?;
+    total.div(whole(problem.scale))
+}
+
 /// Whether the objective reaches the value at the ends that make it least.
 fn objective_reaches(
     problem: &Problem,
@@ -87,12 +115,31 @@ fn objective_reaches(
     ensures { result ≡ objective_reaches problem.now value bx.now point.now }
 {
     let sum = sum_at(Side::Least, problem, bx, point, problem.terms.as_slice())?;
-    let total = sum.add(whole(problem.constant))?;
-    let objective = total.div(whole(problem.scale))?;
+    let objective = objective_of(problem, sum)?;
     Ok(at_most(value, objective))
 }
 
+/// Whether each value lies within the bounds of its continuous variable.
+fn bounds_hold(problem: &Problem, point: &[Frac]) -> bool
+    requires wholes { problem.now.wholes ≤ length problem.now.vars }
+    requires point { length problem.now.vars ≡ problem.now.wholes + length point.now }
+    ensures { result ≡ are_in_bounds (continuous_vars problem.now) point.now }
+{
+    in_bounds(&problem.vars.as_slice()[problem.wholes as usize..], point)
+}
+
+/// Whether each row of the problem holds.
+fn all_rows_hold(problem: &Problem, bx: &[Range], point: &[Frac]) -> Result<bool, Leaves>
+    requires sound { IsSound problem.now }
+    requires ranges { length bx.now ≡ length problem.now.vars }
+    requires point { length bx.now ≡ problem.now.wholes + length point.now }
+    ensures { result ≡ rows_hold problem.now bx.now point.now problem.now.rows }
+{
+    rows_hold(problem, bx, point, problem.rows.as_slice())
+}
+
 /// Whether the leaf passes: bounds first, then rows, then the objective.
+#[tactic(auto, unfolding(qm_trees::specs::Leaves::leaf_passes))]
 pub fn passes(
     problem: &Problem,
     bx: &[Range],
@@ -104,10 +151,10 @@ pub fn passes(
     requires point { length bx.now ≡ problem.now.wholes + length point.now }
     ensures { result ≡ leaf_passes problem.now value bx.now point.now }
 {
-    if !in_bounds(&problem.vars.as_slice()[problem.wholes as usize..], point) {
+    if !bounds_hold(problem, point) {
         return Ok(false);
     }
-    if !rows_hold(problem, bx, point, problem.rows.as_slice())? {
+    if !all_rows_hold(problem, bx, point)? {
         return Ok(false);
     }
     objective_reaches(problem, bx, point, value)

@@ -1,11 +1,12 @@
-ghost use Rattle.std.specs.Prelude.{◌≡◌, ◌+◌, ◌<◌, length, slice_set};
+ghost use Rattle.std.specs.Prelude.{◌≡◌, ◌+◌, ◌<◌, length, slice_set, Ok};
 ghost use Rattle.qm_model.specs.Boxes.{IsBox};
 ghost use Rattle.qm_model.specs.Plays.{is_universal, whole_vars};
 ghost use Rattle.qm_trees.specs.declared.policy.Policy.{out-Policy};
 ghost use Rattle.qm_trees.specs.Verdicts.{answer_of};
-ghost use Rattle.qm_trees.specs.Ranges.{judge_parts, range_at};
+ghost use Rattle.qm_trees.specs.Ranges.{judge_each, judge_parts, range_at};
 ghost use Rattle.qm_trees.specs.PolicyJudgement.{below_of, judge_end, judge_policy, range_of};
 ghost use Rattle.qm_policy.specs.Places.{IsPlace};
+ghost use Rattle.qm_policy.specs.Steps.{first_of};
 
 use crate::cover::{after, contains, count_is_right, follows, is_last, range_in, single, start};
 use crate::leaf::passes;
@@ -85,6 +86,56 @@ fn test_below(
     answer
 }
 
+/// Whether the part's range follows on, and the policy below it passes.
+#[cycle(test)]
+fn test_part(
+    game: &Game,
+    later: &[Var],
+    depth: usize,
+    bx: &mut Bx,
+    value: Frac,
+    follows: bool,
+    part: &PolicyPart,
+) -> Result<bool, Leaves>
+    requires place { IsPlace game.now later.now (depth + 1) bx.old }
+    requires depth { depth < length bx.old }
+    ensures answer { result ≡ first_of (Ok follows) (answer_of (judge_policy game.now value later.now (depth + 1) (slice_set bx.old depth (range_of part.now)) (below_of part.now))) }
+    ensures same { bx.new ≡ bx.old }
+{
+    if !follows {
+        return Ok(false);
+    }
+    let Below::On(policy) = &part.below;
+    test_below(game, later, depth, bx, value, part.range, policy)
+}
+
+/// Whether the parts' ranges follow on from the low to the high end, and the policy below each passes.
+#[cycle(test)]
+fn test_each(
+    game: &Game,
+    later: &[Var],
+    depth: usize,
+    bx: &mut Bx,
+    value: Frac,
+    covered: Range,
+    parts: &[PolicyPart],
+) -> Result<bool, Leaves>
+    requires place { IsPlace game.now later.now (depth + 1) bx.old }
+    requires depth { depth < length bx.old }
+    ensures answer { result ≡ answer_of (judge_each range_of (λ part. judge_policy game.now value later.now (depth + 1) (slice_set bx.old depth (range_of part)) (below_of part)) covered.low covered.high parts.now) }
+    ensures same { bx.new ≡ bx.old }
+{
+    let mut next = start(covered);
+    for (at, part) in parts.iter().enumerate() {
+        let follows = follows(next, covered, is_last(parts, at), part.range);
+        if !test_part(game, later, depth, bx, value, follows, part)? {
+            return Ok(false);
+        }
+        next = after(part.range);
+    }
+    Ok(true)
+}
+
 /// Whether the parts cover the variable's range, and the policy below each passes.
 #[cycle(test)]
 fn test_parts(
@@ -104,18 +155,7 @@ fn test_parts(
     if !count_is_right(covered, parts.len()) {
         return Ok(false);
     }
-    let mut next = start(covered);
-    for (at, part) in parts.iter().enumerate() {
-        if !follows(next, covered, is_last(parts, at), part.range) {
-            return Ok(false);
-        }
-        let Below::On(policy) = &part.below;
-        if !test_below(game, later, depth, bx, value, part.range, policy)? {
-            return Ok(false);
-        }
-        next = after(part.range);
-    }
-    Ok(true)
+    test_each(game, later, depth, bx, value, covered, parts)
 }
 
 /// Whether the universal player sets the variable.

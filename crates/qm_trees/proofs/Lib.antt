@@ -3,3 +3,5 @@ pub mod CoverLines
 pub mod LeafLines
 pub mod PolicyLines
 pub mod LeafPoints
+pub mod PolicyReaches
+pub mod SmallerValues

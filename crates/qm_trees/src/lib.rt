@@ -6,11 +6,15 @@
 mod combination;
 mod empty;
 mod policy;
+mod policy_laws;
 mod refutation;
 mod rule;
 
 pub use combination::{Combo, ComboValue, Entry};
 pub use empty::{Empty, EmptyPart};
 pub use policy::{Below, Policy, PolicyPart};
+pub use policy_laws::{
+    fine_policies_are_right, right_policies_are_right_at_less, right_policies_win, yes_means_fine,
+};
 pub use refutation::{Refute, RefutePart};
 pub use rule::Rule;
