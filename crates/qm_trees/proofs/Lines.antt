@@ -1,0 +1,74 @@
+-- Which verdicts are fine, and the tests of lines as facts.
+use Rattle.std.proofs.Common.{◌≡◌, Bool, true, false, not, refl, sym, subst, ℤ, ◌≤ℤ◌, ◌<ℤ◌, arith, Ok, Err}
+use Rattle.std.specs.Prelude.{int_le, int_lt, IsOk}
+use Rattle.std.proofs.lemmas.Int.{ints}
+use Rattle.qm_frac.specs.Checked.{Checked, and_then}
+use Rattle.qm_trees.specs.declared.rule.Rule.{Rule}
+use Rattle.qm_trees.specs.Verdicts.{Verdict, Fine, Broken, Left, line, ◌then◌, answer_of}
+use Rattle.qm_trees.specs.Passing.{IsFine}
+
+pub le_of_test : (a b : ℤ) → int_le a b ≡ true → a ≤ℤ b
+le_of_test a b e = grind (arith, ints)
+
+pub test_of_le : (a b : ℤ) → a ≤ℤ b → int_le a b ≡ true
+test_of_le a b h = grind (arith, ints)
+
+pub lt_of_test : (a b : ℤ) → int_lt a b ≡ true → a <ℤ b
+lt_of_test a b e = grind (arith, ints)
+
+pub test_of_lt : (a b : ℤ) → a <ℤ b → int_lt a b ≡ true
+test_of_lt a b h = grind (arith, ints)
+
+pub false_of_le : (a b : ℤ) → a ≤ℤ b → int_lt b a ≡ false
+false_of_le a b h = grind (arith, ints)
+
+pub true_of_not : (b : Bool) → not b ≡ true → b ≡ false
+true_of_not true e = sym e
+true_of_not false e = refl
+
+-- both of two verdicts
+pub fine_parts : (a b : Verdict) → IsFine (a then b) → IsFine a × IsFine b
+fine_parts (Fine m) (Fine n) h = (tt, tt)
+fine_parts (Fine m) (Broken rule n) h = absurd h
+fine_parts (Fine m) (Left leaves n) h = absurd h
+fine_parts (Broken rule n) b h = absurd h
+fine_parts (Left leaves n) b h = absurd h
+
+pub fine_both : (a b : Verdict) → IsFine a → IsFine b → IsFine (a then b)
+fine_both (Fine m) (Fine n) h k = tt
+fine_both (Fine m) (Broken rule n) h k = absurd k
+fine_both (Fine m) (Left leaves n) h k = absurd k
+fine_both (Broken rule n) b h k = absurd h
+fine_both (Left leaves n) b h k = absurd h
+
+-- one line
+pub fine_line : (rule : Rule) (x : Checked Bool) → IsFine (line rule x) → x ≡ Ok true
+fine_line rule (Ok true) h = refl
+fine_line rule (Ok false) h = absurd h
+fine_line rule (Err leaves) h = absurd h
+
+pub line_fine : (rule : Rule) (x : Checked Bool) → x ≡ Ok true → IsFine (line rule x)
+line_fine rule x e = subst (λ y. IsFine (line rule y)) (sym e) tt
+
+-- the test answers yes exactly where all is fine
+pub fine_of_answer : (v : Verdict) → answer_of v ≡ Ok true → IsFine v
+fine_of_answer (Fine n) e = tt
+fine_of_answer (Broken rule n) e = cc
+fine_of_answer (Left leaves n) e = cc
+
+pub answer_of_fine : (v : Verdict) → IsFine v → answer_of v ≡ Ok true
+answer_of_fine (Fine n) h = refl
+answer_of_fine (Broken rule n) h = absurd h
+answer_of_fine (Left leaves n) h = absurd h
+
+pub ok_is : {A : Type 0} (a b : A) → ◌≡◌ {A = Checked A} (Ok a) (Ok b) → a ≡ b
+ok_is a b e = cc
+
+-- the value of a step that goes through
+pub bind_parts : {A B : Type 0} (x : Checked A) (f : A → Checked B) (r : B) → and_then x f ≡ Ok r → (y : A) × (x ≡ Ok y) × (f y ≡ Ok r)
+bind_parts (Ok y) f r e = (y, refl, e)
+bind_parts (Err leaves) f r e = cc
+
+pub bind_ok : {A : Type 0} (x : Checked A) → IsOk x → (y : A) × (x ≡ Ok y)
+bind_ok (Ok y) h = (y, refl)
+bind_ok (Err leaves) h = cc

@@ -1,0 +1,15 @@
+pub mod Entries
+pub mod Evaluation
+pub mod Closing
+pub mod Verdicts
+pub mod Ranges
+pub mod Leaves
+pub mod PolicyJudgement
+pub mod PolicyRight
+pub mod Picks
+pub mod RefuteJudgement
+pub mod RefuteRight
+pub mod EmptyJudgement
+pub mod EmptyRight
+pub mod Passing
+pub mod Reaching

@@ -1,0 +1,20 @@
+//! Combinations of rows, policies, refutations and empty trees: the data of a certificate, and when it is right.
+//! `specs/` says each twice: without an order, and as a judgement in the order of the text, whose first fault
+//! is a broken rule or an operation that leaves.
+#![tactic(auto)]
+
+mod combination;
+mod empty;
+mod policy;
+mod policy_laws;
+mod refutation;
+mod rule;
+
+pub use combination::{Combo, ComboValue, Entry};
+pub use empty::{Empty, EmptyPart};
+pub use policy::{Below, Policy, PolicyPart};
+pub use policy_laws::{
+    fine_policies_are_right, right_policies_are_right_at_less, right_policies_win, yes_means_fine,
+};
+pub use refutation::{Refute, RefutePart};
+pub use rule::Rule;
