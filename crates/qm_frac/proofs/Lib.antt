@@ -8,3 +8,4 @@ pub mod OrderLaws
 pub mod Values
 pub mod AnswerLaws
 pub mod CheckedLaws
+pub mod Halving
