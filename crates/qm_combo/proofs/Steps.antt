@@ -1,4 +1,5 @@
 -- One step of a sum over entries or over variables, where each operation may leave.
+use Rattle.std.proofs.lemmas.Bool.Decides.{Decides-int_eq}
 use Rattle.std.proofs.Common.{◌≡◌, ◌∙◌, refl, sym, ap, ℕ, suc, ◌+◌, ◌<◌, add-one, Bool, true, false, List, [], ◌∷◌, length, get_or, drop, Ok, Err}
 use Rattle.std.specs.Prelude.{Some, if◌then◌else◌, pos}
 use Rattle.std.specs.Ordering.{int_eq}
@@ -11,7 +12,8 @@ use Rattle.qm_model.specs.declared.game.Problem.{Problem}
 use Rattle.qm_model.specs.Linear.{coefficient}
 use Rattle.qm_trees.specs.declared.combination.Entry.{Entry}
 use Rattle.qm_trees.specs.Entries.{Weighted, row_named, weighted_rows, with_row}
-use Rattle.qm_trees.specs.Evaluation.{zero, add_coefficients, add_least, add_variables, less_objective}
+use Rattle.qm_frac.specs.declared.leaves.Leaves.{Leaves}
+use Rattle.qm_trees.specs.Evaluation.{zero, add_coefficients, add_least, add_variables, least_end_by, less_objective}
 use Rattle.qm_combo.proofs.NamedRows.{weighted_more}
 
 pub and_then_ok : {A : Type 0} (x : Checked A) → and_then x (λ a. Ok a) ≡ x
@@ -56,3 +58,25 @@ variables_at P objective ws bx i d s h =
     ∙ and_then_assoc (add_coefficients i ws zero) (λ a. less_objective P objective i a)
     (λ c. and_then (add_least c (get_or bx i d) s) (λ t. add_variables P objective ws (suc i) (drop (i + 1) bx) t))
     ∙ rw add-one refl
+
+-- the coefficient of the variable i leaves
+pub variables_leave : (P : Problem) (objective : Bool) (ws : List Weighted) (bx : List Range) (i : ℕ) (d : Range) (s : Fraction) (all : Checked Fraction) (leaves : Leaves)
+    → i < length bx
+    → and_then (add_coefficients i ws zero) (λ a. less_objective P objective i a) ≡ Err leaves
+    → add_variables P objective ws i (drop i bx) s ≡ all → Err leaves ≡ all
+variables_leave P objective ws bx i d s all leaves h e before =
+    sym (ap (λ (x : Checked Fraction). and_then x (λ c. and_then (add_least c (get_or bx i d) s) (λ t. add_variables P objective ws (i + 1) (drop (i + 1) bx) t))) e)
+    ∙ sym (variables_at P objective ws bx i d s h)
+    ∙ before
+
+not_true : (b : Bool) → (b ≡ true → ⊥) → b ≡ false
+not_true true h = absurd (h refl)
+not_true false h = refl
+
+-- a coefficient that isn't 0 times its better end, and the sum
+pub least_more : (c : Fraction) (r : Range) (s w p : Fraction) → (c.num ≡ pos 0 → ⊥) → w ≡ whole (least_end_by c.num r) → Ok p ≡ multiplied c w
+    → added s p ≡ add_least c r s
+least_more c r s w p some is e =
+    let none : int_eq c.num (pos 0) ≡ false = not_true (int_eq c.num (pos 0)) (λ t. some ((Decides-int_eq c.num (pos 0)).0 t)) in
+    let times : multiplied c (whole (least_end_by c.num r)) ≡ Ok p = ap (λ (x : Fraction). multiplied c x) (sym is) ∙ sym e in
+    rw (none, times) refl

@@ -16,6 +16,7 @@ use qm_model::{Game, Problem, Range, Row};
 use qm_trees::{Combo, ComboValue, Entry};
 
 /// Whether the rows alone contradict the box.
+#[tactic(auto, unfolding(qm_trees::specs::Evaluation::value_of))]
 fn rows_value(
     problem: &Problem,
     cuts: &[Row],
@@ -35,6 +36,7 @@ fn rows_value(
 }
 
 /// The bound of the objective by the rows.
+#[tactic(auto, unfolding(qm_trees::specs::Evaluation::value_of))]
 fn bound_value(
     problem: &Problem,
     cuts: &[Row],

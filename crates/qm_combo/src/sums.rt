@@ -61,12 +61,7 @@ fn add_coefficients(
 }
 
 /// The objective's coefficient is taken away, where the objective is in the combination and has the variable.
-fn less_objective(
-    problem: &Problem,
-    objective: bool,
-    var: u32,
-    sum: Frac,
-) -> Result<Frac, Leaves>
+fn less_objective(problem: &Problem, objective: bool, var: u32, sum: Frac) -> Result<Frac, Leaves>
     requires { AreNarrow problem.now.terms }
     ensures { result ≡ less_objective problem.now objective var sum }
 {
