@@ -6,12 +6,14 @@ mod bx;
 mod dead;
 mod ends;
 mod forms;
+mod goal;
 mod product;
 
 pub use bx::{Bx, has_empty, narrow, put, whole_box};
 pub use dead::row_dead;
 pub use ends::{least, most};
 pub use forms::{form_at, row_holds};
+pub use goal::Goal;
 pub use qm_model::{Game, Player, Problem, Range, Row, RowId, Sense, Term, Terms, Var};
 
 #[cfg(test)]

@@ -1,0 +1,5 @@
+pub mod Coefficients
+pub mod NamedRows
+pub mod Steps
+pub mod Narrow
+pub mod EmptyRanges

@@ -1,0 +1,65 @@
+ghost use Rattle.std.specs.Prelude.{◌≡◌, ◌<◌, ◌^◌, IsSome, Some, unsigned_abs};
+ghost use Rattle.qm_math.specs.Fraction.{is_at_most, is_below, whole};
+ghost use Rattle.qm_model.specs.Linear.{IsOrdered, coefficient};
+ghost use Rattle.qm_trees.specs.Entries.{row_named};
+
+use qm_frac::Frac;
+use qm_model::{Problem, Row, RowId, Term};
+use std::cmp::Ordering;
+
+/// The whole number as a fraction.
+pub(crate) fn fraction(n: i128) -> Frac
+    requires { unsigned_abs n < 2 ^ 127 }
+    ensures { result ≡ whole n }
+{
+    match Frac::of(n, 1) {
+        Some(fraction) => fraction,
+        None => Frac::whole(0),
+    }
+}
+
+pub(crate) fn is_below(a: Frac, b: Frac) -> bool
+    ensures { result ≡ is_below a b }
+{
+    a.cmp(b) == Ordering::Less
+}
+
+pub(crate) fn is_at_most(a: Frac, b: Frac) -> bool
+    ensures { result ≡ is_at_most a b }
+{
+    a.cmp(b) != Ordering::Greater
+}
+
+/// The coefficient of a variable, 0 where no term names it.
+pub(crate) fn coefficient_of(terms: &[Term], var: u32) -> i128
+    requires { IsOrdered terms.now }
+    ensures { result ≡ coefficient terms.now var }
+{
+    for term in terms {
+        if term.var == var {
+            return number_of(*term);
+        }
+        if term.var > var {
+            return 0;
+        }
+    }
+    0
+}
+
+fn number_of(term: Term) -> i128
+    ensures { result ≡ term.coef }
+{
+    term.coef
+}
+
+/// The row that is named.
+pub(crate) fn row_of<'a>(problem: &'a Problem, cuts: &'a [Row], id: RowId) -> &'a Row
+    requires { IsSome (row_named problem.now cuts.now id) }
+    ensures { row_named problem.now cuts.now id ≡ Some result.now }
+{
+    match id {
+        RowId::Row(number) => &problem.rows.as_slice()[number as usize],
+        RowId::Uncertain(number) => &problem.urows.as_slice()[number as usize],
+        RowId::Cut(number) => &cuts[number as usize],
+    }
+}
