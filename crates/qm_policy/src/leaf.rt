@@ -140,12 +140,7 @@ fn all_rows_hold(problem: &Problem, bx: &[Range], point: &[Frac]) -> Result<bool
 
 /// Whether the leaf passes: bounds first, then rows, then the objective.
 #[tactic(auto, unfolding(qm_trees::specs::Leaves::leaf_passes))]
-pub fn passes(
-    problem: &Problem,
-    bx: &[Range],
-    point: &[Frac],
-    value: Frac,
-) -> Result<bool, Leaves>
+pub fn passes(problem: &Problem, bx: &[Range], point: &[Frac], value: Frac) -> Result<bool, Leaves>
     requires sound { IsSound problem.now }
     requires ranges { length bx.now ≡ length problem.now.vars }
     requires point { length bx.now ≡ problem.now.wholes + length point.now }
