@@ -9,13 +9,31 @@ use Rattle.qm_math.proofs.Whole.{*ℤ_assoc, *ℤ_swap, cancel_le}
 use Rattle.qm_frac.specs.Signs.{signed, is_below_zero}
 use Rattle.qm_frac.specs.Lowest.{IsFrac, IsInRange}
 use Rattle.qm_frac.specs.Arithmetic.{SumFits, sum, difference, product, quotient, negated, inverse, left_num, right_num, common_den}
-use Rattle.qm_frac.specs.Plain.{sum_of, product_of}
-use Rattle.qm_frac.specs.Checked.{sum_fits, is_in_range, added, subtracted, multiplied, divided}
+use Rattle.qm_frac.proofs.MultipliedOut.{sum_of, product_of}
+use Rattle.qm_frac.specs.Checked.{and_then, sum_fits, is_in_range, added, subtracted, multiplied, divided}
 use Rattle.qm_frac.specs.declared.leaves.Leaves.{Leaves}
 use Rattle.qm_frac.specs.declared.leaves.Op.TheVariants as op
 use Rattle.qm_frac.proofs.Terms.{quotient_pos, in_range_small, IsFrac-lowest}
 use Rattle.qm_frac.proofs.Values.{sum-value, product-value}
 use Rattle.qm_frac.proofs.AnswerLaws.{sum_fits_decides, in_range_decides}
+
+-- ---- evaluations in steps
+
+-- an evaluation that has a value has one at its first step and at its next
+pub and_then-ok : {A B : Type 0} (first : Result A Leaves) (next : A → Result B Leaves) (r : B) → and_then first next ≡ Ok r → (x : A) × (first ≡ Ok x) × (next x ≡ Ok r)
+and_then-ok (Ok x) next r h = (x, refl, h)
+and_then-ok (Err e) next r h = absurd (cc)
+
+pub and_then-Ok : {A : Type 0} (first : Result A Leaves) → and_then first (λ x. Ok x) ≡ first
+and_then-Ok (Ok x) = refl
+and_then-Ok (Err e) = refl
+
+pub and_then_assoc : {A B C : Type 0} (first : Result A Leaves) (next : A → Result B Leaves) (last : B → Result C Leaves)
+    → and_then (and_then first next) last ≡ and_then first (λ x. and_then (next x) last)
+and_then_assoc (Ok x) next last = refl
+and_then_assoc (Err e) next last = refl
+
+-- ---- one operation
 
 -- a choice that gave a value took the first way
 chosen : (b : Bool) (x r : Fraction) (e : Leaves) → (let z : Result Fraction Leaves = if b then Ok x else Err e in z) ≡ Ok r → (b ≡ true) × (x ≡ r)

@@ -43,6 +43,13 @@ gcd_is a b = gcd_within_is b a b (omega arith)
 pub gcd_from_IsGcd : (a b g : ℕ) → IsGcd a b g → gcd_of a b ≡ g
 gcd_from_IsGcd a b g h = same_from_IsGcd a b (gcd_of a b) g (gcd_is a b) h
 
+-- one step by a remainder
+pub gcd_of-mod : (a b : ℕ) → gcd_of b (a % b) ≡ gcd_of a b
+gcd_of-mod a b = sym (gcd_from_IsGcd a b _ (IsGcd-from_mod a b _ (gcd_is b (a % b))))
+
+pub gcd_of-zero : (a b : ℕ) → b ≡ 0 → gcd_of a b ≡ a
+gcd_of-zero a b e = gcd_from_IsGcd a b a (IsGcd-from_zero a b e)
+
 pub IsGcd-mul : (k a b g : ℕ) → 0 < k → IsGcd a b g → IsGcd (k * a) (k * b) (k * g)
 IsGcd-mul k a b g some h =
     let e : gcd_within b a b ≡ g = same_from_IsGcd a b _ _ (gcd_within_is b a b (omega arith)) h in

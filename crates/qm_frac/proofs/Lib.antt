@@ -1,3 +1,4 @@
+pub mod MultipliedOut
 pub mod Divisors
 pub mod SignLaws
 pub mod Terms
@@ -8,3 +9,4 @@ pub mod OrderLaws
 pub mod Values
 pub mod AnswerLaws
 pub mod CheckedLaws
+pub mod Halving

@@ -1,6 +1,7 @@
 -- Fractions in lowest terms.
 use Rattle.std.proofs.Common.{◌≡◌, ℕ, zero, suc, ◌*◌, ◌/◌, ◌^◌, ◌<◌, ℤ, pos, negsuc, neg_ℤ, unsigned_abs, Bool, true, false, not, refl, sym, ap, ap₂, ◌∙◌, arith, ⊎_elim, eq-zero-or-pos}
 use native.Mathlib.Nat.{one-dvd, zero-div, div-mul_cancel, div-le_self}
+use Rattle.std.proofs.Math.Nat.{div-one}
 use mathlib.Core.Bool.{beq}
 use lib.Signed.{lt_z}
 use Rattle.qm_math.specs.Fraction.{Fraction}
@@ -8,7 +9,7 @@ use Rattle.qm_frac.specs.Gcd.{gcd_of}
 use Rattle.qm_frac.specs.Signs.{signed, is_below_zero}
 use Rattle.qm_frac.specs.Lowest.{IsFrac, IsInRange, lowest_parts, lowest, lowest_terms}
 use Rattle.qm_frac.proofs.Divisors.{gcd_is, gcd_pos, gcd_from_IsGcd, IsCoprime, IsCoprime-quotients}
-use Rattle.qm_frac.proofs.SignLaws.{unsigned_abs-signed, below_zero_is}
+use Rattle.qm_frac.proofs.SignLaws.{unsigned_abs-signed, below_zero_is, signed_abs}
 
 -- the second quotient by the greatest common divisor is positive
 pub quotient_pos : (n d : ℕ) → 0 < d → 0 < d / gcd_of n d
@@ -89,3 +90,14 @@ whole_is z h = record {
   num_fits = h;
   den_fits = omega arith;
 }
+
+-- what is in lowest terms stays as it is
+pub lowest_again : (r : Fraction) → IsFrac r → lowest r.num r.den ≡ r
+unfolding lowest_parts
+lowest_again r h =
+    let pair : ℤ → ℕ → Fraction = λ x y. record { num = x; den = y } in
+    let n = unsigned_abs r.num in
+    let num : signed (is_below_zero r.num) (n / gcd_of n r.den) ≡ r.num =
+    ap (λ (x : ℕ). signed (is_below_zero r.num) (n / x)) h.lowest ∙ ap (λ (x : ℕ). signed (is_below_zero r.num) x) (div-one n) ∙ signed_abs r.num in
+    let den : r.den / gcd_of n r.den ≡ r.den = ap (λ (x : ℕ). r.den / x) h.lowest ∙ div-one r.den in
+    ap₂ pair num den

@@ -6,7 +6,7 @@ use Rattle.qm_math.proofs.Whole.{add-*ℤ, *ℤ_assoc}
 use Rattle.qm_frac.specs.Gcd.{gcd_of}
 use Rattle.qm_frac.specs.Lowest.{lowest_parts, lowest}
 use Rattle.qm_frac.specs.Arithmetic.{sum, product, left_num, right_num, common_den}
-use Rattle.qm_frac.specs.Plain.{sum_of, product_of}
+use Rattle.qm_frac.proofs.MultipliedOut.{sum_of, product_of}
 use Rattle.qm_frac.proofs.Divisors.{gcd_is}
 
 neg-mul : (m d : ℕ) → neg_ℤ (pos m) *ℤ pos d ≡ neg_ℤ (pos (m * d))

@@ -2,6 +2,5 @@ pub mod Gcd
 pub mod Signs
 pub mod Lowest
 pub mod Arithmetic
-pub mod Plain
 pub mod Order
 pub mod Checked

@@ -1,6 +1,7 @@
-ghost use Rattle.std.specs.Prelude.{◌≡◌, ◌<◌, ◌^◌, pos, neg_ℤ, unsigned_abs, ◌↔◌, IfSome, IsOk, IfOk, IfErr};
+ghost use Rattle.std.specs.Prelude.{◌≡◌, ◌<◌, ◌^◌, pos, ◌<ℤ◌, unsigned_abs, ◌↔◌, IsOk, IfOk, IfErr};
 ghost use Rattle.std.specs.Option.{SomeIff};
-ghost use Rattle.qm_frac.specs.Lowest.{IsFrac, IsInRange, lowest, lowest_parts, lowest_terms};
+ghost use Rattle.std.specs.Int.{int_div_euclid};
+ghost use Rattle.qm_frac.specs.Lowest.{IsFrac, IsInRange, lowest_parts, lowest_terms};
 ghost use Rattle.qm_frac.specs.Signs.{signed};
 ghost use Rattle.qm_frac.specs.Arithmetic.{SumFits, sum, negated, difference, product, inverse, quotient, floor_of, ceil_of, IsFloor, IsCeil};
 ghost use Rattle.qm_frac.specs.Order.{fraction_cmp};
@@ -174,8 +175,7 @@ impl Frac {
         ensures value { result ≡ floor_of self }
         ensures floor { IsFloor self result }
     {
-        let (num, den) = self.parts();
-        num.div_euclid(den as i128)
+        floor_of_parts(self.num(), self.den())
     }
 
     /// The least whole number that isn't below.
@@ -183,8 +183,7 @@ impl Frac {
         ensures value { result ≡ ceil_of self }
         ensures ceil { IsCeil self result }
     {
-        let (num, den) = self.parts();
-        -(-num).div_euclid(den as i128)
+        -floor_of_parts(-self.num(), self.den())
     }
 
     // 1 over the fraction.
@@ -204,6 +203,14 @@ impl Frac {
     {
         (self.num, self.den as u128)
     }
+}
+
+/// A numerator over 1.
+pub(crate) fn over_one(num: i128) -> Frac
+    requires { unsigned_abs num < 2 ^ 127 }
+    ensures { result ≡ record { num = num; den = 1 } }
+{
+    Frac { num, den: 1 }
 }
 
 /// A sign and two magnitudes that are in lowest terms and in range.
@@ -227,4 +234,14 @@ pub(crate) fn lowest_of(minus: bool, n: u128, d: u128) -> Option<Frac>
         return None;
     }
     Some(made(minus, n, d))
+}
+
+// The greatest whole number that isn't above num / den.
+fn floor_of_parts(num: i128, den: i128) -> i128
+    requires den { pos 0 <ℤ den }
+    requires num { unsigned_abs num < 2 ^ 127 }
+    ensures value { result ≡ int_div_euclid num den }
+    ensures bound { unsigned_abs result < 2 ^ 127 }
+{
+    if den == 1 { num } else { num.div_euclid(den) }
 }

@@ -1,10 +1,9 @@
-ghost use Rattle.std.specs.Prelude.{◌≡◌, ℕ, ◌<◌, ◌*◌, ℤ, pos, ◌+ℤ◌, ◌*ℤ◌, unsigned_abs, Ok};
+ghost use Rattle.std.specs.Prelude.{◌≡◌, ℕ, ◌<◌, unsigned_abs, Ok};
 ghost use Rattle.std.specs.Int.{IsGcd};
 ghost use Rattle.qm_math.specs.Fraction.{Fraction, IsSame};
+ghost use Rattle.qm_math.specs.Arithmetic.{difference_of, product_of, quotient_of, sum_of};
 ghost use Rattle.qm_frac.specs.Gcd.{gcd_of};
 ghost use Rattle.qm_frac.specs.Lowest.{IsFrac};
-ghost use Rattle.qm_frac.specs.Arithmetic.{negated, inverse};
-ghost use Rattle.qm_frac.specs.Plain.{sum_of, product_of};
 ghost use Rattle.qm_frac.specs.Checked.{added, subtracted, multiplied, divided};
 
 /// The greatest common divisor divides both numbers, and each common divisor divides it.
@@ -15,9 +14,9 @@ pub fn gcd_is_greatest()
 /// An operation that doesn't leave has the value of the operation multiplied out.
 pub fn checked_values_are_exact()
     ensures sum { (a b r : Fraction) → added a b ≡ Ok r → IsSame r (sum_of a b) }
-    ensures difference { (a b r : Fraction) → subtracted a b ≡ Ok r → IsSame r (sum_of a (negated b)) }
+    ensures difference { (a b r : Fraction) → subtracted a b ≡ Ok r → IsSame r (difference_of a b) }
     ensures product { (a b r : Fraction) → multiplied a b ≡ Ok r → IsSame r (product_of a b) }
-    ensures quotient { (a b r : Fraction) → divided a b ≡ Ok r → IsSame r (product_of a (inverse b)) }
+    ensures quotient { (a b r : Fraction) → divided a b ≡ Ok r → IsSame r (quotient_of a b) }
 {}
 
 /// A quotient times the divisor is the number that was divided.

@@ -4,7 +4,7 @@ use Rattle.qm_math.specs.Fraction.{Fraction, whole, IsSame, IsAtMost}
 use Rattle.qm_math.specs.Arithmetic.{product_of}
 use Rattle.qm_math.specs.Totals.{total_of}
 use Rattle.qm_math.specs.Combinations.{value_at, combined_row}
-use Rattle.qm_math.proofs.FractionLaws.{same_sym, same_trans, product_of_den, product_of_assoc}
+use Rattle.qm_math.proofs.FractionLaws.{same_sym, same_trans, product_of_den, product_of_assoc, product_of-same}
 use Rattle.qm_math.proofs.Compare.{at_most_trans}
 use Rattle.qm_math.proofs.FractionOrder.{at_most-same, product_of-at_most}
 use Rattle.qm_math.proofs.Totals.{total_of_den, total_of-same, total_of-at_most, product_of-total_of, total_of-product_of, total_of_exchange}
@@ -14,6 +14,12 @@ pub value_at_den : {C : Type 0} (columns : List C) (k x : C → Fraction)
 value_at_den columns k x hk hx =
     total_of_den (λ c. product_of (k c) (x c)) columns
     (λ i d below. product_of_den (k (get_or columns i d)) (x (get_or columns i d)) (hk i d below) (hx i d below))
+
+pub value_at-same : {C : Type 0} (columns : List C) (k l x y : C → Fraction)
+    → All (λ c. IsSame (k c) (l c)) columns → All (λ c. IsSame (x c) (y c)) columns → IsSame (value_at columns k x) (value_at columns l y)
+value_at-same columns k l x y e f =
+    total_of-same (λ c. product_of (k c) (x c)) (λ c. product_of (l c) (y c)) columns
+    (λ i d below. product_of-same (k (get_or columns i d)) (x (get_or columns i d)) (l (get_or columns i d)) (y (get_or columns i d)) (e i d below) (f i d below))
 
 -- y times a row's value
 scaled_value : {C : Type 0} (y : Fraction) (columns : List C) (k x : C → Fraction)

@@ -6,7 +6,7 @@ use Rattle.qm_math.specs.Arithmetic.{sum_of, negated, difference_of, product_of,
 use Rattle.qm_math.proofs.Whole.{*ℤ_swap}
 use Rattle.qm_math.proofs.Products.{cancel_same}
 use Rattle.qm_math.proofs.Polynomials.{number, ◌⊕◌, ◌⊗◌, minus}
-use Rattle.qm_math.proofs.Ring.{x0, x1, x2, x3, ring, ring_from}
+use Rattle.qm_math.proofs.Ring.{x0, x1, x2, x3, x4, x5, x6, x7, ring, ring_from}
 use Rattle.qm_math.proofs.FractionRing.{num_of, den_of, same_by_ring, same_from}
 
 -- ---- denominators stay above 0
@@ -145,6 +145,18 @@ difference_of-same a b c d e k = sum_of-same a (negated b) c (negated d) e (nega
 sign_times : (z : ℤ) → z *ℤ sign_of z ≡ pos (unsigned_abs z)
 sign_times (pos n) = omega (arith, ints)
 sign_times (negsuc n) = omega (arith, ints)
+
+-- the same number has the same inverse
+pub inverse_of-same : (a b : Fraction) → IsSame a b → IsSame (inverse_of a) (inverse_of b)
+unfolding inverse_of
+inverse_of-same a b e =
+    ring_from (a.num ∷ pos a.den ∷ sign_of a.num ∷ pos (unsigned_abs a.num) ∷ b.num ∷ pos b.den ∷ sign_of b.num ∷ pos (unsigned_abs b.num) ∷ [])
+    (x2 ⊗ x1 ⊗ x7) (x6 ⊗ x5 ⊗ x3)
+    ((x2 ⊗ x1, x7, x4 ⊗ x6) ∷ (x2 ⊗ x6, x4 ⊗ x1, x0 ⊗ x5) ∷ (x6 ⊗ x5, x0 ⊗ x2, x3) ∷ [])
+    (sym (sign_times b.num), (sym e, (sign_times a.num, tt))) refl
+
+pub quotient_of-same : (a b c d : Fraction) → IsSame a c → IsSame b d → IsSame (quotient_of a b) (quotient_of c d)
+quotient_of-same a b c d e k = product_of-same a (inverse_of b) c (inverse_of d) e (inverse_of-same b d k)
 
 -- a number times its inverse is 1; at 0 both sides have the denominator 0
 pub product_of-inverse_of : (a : Fraction) → IsSame (product_of a (inverse_of a)) (whole (pos 1))

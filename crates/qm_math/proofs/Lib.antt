@@ -20,6 +20,7 @@ pub mod WholeRows
 pub mod Rows
 pub mod Pivots
 pub mod Lexicographic
+pub mod SameLists
 pub mod Ends
 pub mod Refutes
 pub mod Distinct

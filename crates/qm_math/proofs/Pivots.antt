@@ -3,16 +3,16 @@ use Rattle.std.proofs.Common.{◌≡◌, refl, subst, ℕ, ◌<◌, arith, List,
 use Rattle.std.proofs.lemmas.List.Elements.{All-set, All-get_or}
 use Rattle.qm_math.specs.Fraction.{Fraction, IsSame}
 use Rattle.qm_math.specs.Arithmetic.{sum_of, difference_of, product_of}
-use Rattle.qm_math.specs.Totals.{total_of, sum_of_products, reduced_row}
+use Rattle.qm_math.specs.Totals.{sum_of_products, reduced_row}
 use Rattle.qm_math.specs.Combinations.{value_at}
-use Rattle.qm_math.specs.Pivots.{row_value, pivoted_row, pivoted_constant}
+use Rattle.qm_math.specs.Pivots.{row_value, pivoted_row, pivoted_constant, pivoted_number}
 use Rattle.qm_math.proofs.Polynomials.{item, number, ◌⊕◌, ◌⊗◌, minus}
 use Rattle.qm_math.proofs.Ring.{x0, x1, x2, x3, x4, x5, x6, x7, x8, x9}
 use Rattle.qm_math.proofs.FractionRing.{den_of, same_by_ring, same_from}
 use Rattle.qm_math.proofs.FractionLinear.{same_given}
 use Rattle.qm_math.proofs.FractionLaws.{product_of_den, difference_of_den}
 use Rattle.qm_math.proofs.Combinations.{value_at_den}
-use Rattle.qm_math.proofs.Rows.{sum_of_products_den, length-reduced_row, get_or-reduced_row, reduced_row_den, reduced_step, sum_of_products-reduced_row, sum_of_products-set}
+use Rattle.qm_math.proofs.Rows.{sum_of_products_den, length-reduced_row, get_or-reduced_row, reduced_row_den, reduced_step, sum_of_products-reduced_row, sum_of_products-set, sum_of_products-set_value}
 
 -- the algebra of it: t, u and q are what the rows and the values have in the pivot column, T and U the sums
 -- over the old columns, C the sum after the row is reduced, and N the sum after the column has the factor
@@ -58,6 +58,26 @@ row_value-pivoted_row constant other f y ks os vs c d lengths in_row in_values h
     (sum_of_products-reduced_row ks f os vs lengths)
     factor pivot
 
+-- ---- an unknown counted from another origin: its value falls by a shift, and the constant takes the shift's share
+shifts : (constant k s t n q : Fraction) → 0 < constant.den → 0 < k.den → 0 < s.den → 0 < t.den → 0 < n.den → 0 < q.den
+    → IsSame (sum_of n (product_of k q)) (sum_of t (product_of k (difference_of q s)))
+    → IsSame (sum_of (sum_of constant (product_of k s)) n) (sum_of constant t)
+shifts constant k s t n q h0 h1 h2 h3 h4 h5 e =
+    same_given (constant ∷ k ∷ s ∷ t ∷ n ∷ q ∷ []) (x0 ⊕ x1 ⊗ x2 ⊕ x4) (x0 ⊕ x3)
+    ((number (pos 1), x4 ⊕ x1 ⊗ x5, x3 ⊕ x1 ⊗ (x5 ⊕ minus x2)) ∷ [])
+    (h0, (h1, (h2, (h3, (h4, (h5, tt)))))) (e, tt) refl
+
+pub row_value-shifted : (constant shift : Fraction) (ks vs : List Fraction) (c : ℕ) (d : Fraction) → c < length ks → c < length vs
+    → 0 < constant.den → 0 < shift.den → All (λ k. 0 < k.den) ks → All (λ v. 0 < v.den) vs
+    → IsSame (row_value (sum_of constant (product_of (get_or ks c d) shift)) ks (set vs c (difference_of (get_or vs c d) shift))) (row_value constant ks vs)
+row_value-shifted constant shift ks vs c d in_row in_values hconstant hshift hk hv =
+    let here = All-get_or (λ v. 0 < v.den) vs c d in_values hv in
+    let moved = difference_of (get_or vs c d) shift in
+    shifts constant (get_or ks c d) shift (sum_of_products ks vs) (sum_of_products ks (set vs c moved)) (get_or vs c d)
+    hconstant (All-get_or (λ k. 0 < k.den) ks c d in_row hk) hshift (sum_of_products_den ks vs hk hv)
+    (sum_of_products_den ks (set vs c moved) hk (All-set (λ v. 0 < v.den) vs c moved (difference_of_den (get_or vs c d) shift here hshift) hv)) here
+    (sum_of_products-set_value ks vs c moved d d in_row in_values)
+
 -- ---- the same by columns: t and u give the two rows' numbers in the columns other than the pivot column
 pub value_at-reduced_row : {C : Type 0} (columns : List C) (f : Fraction) (t u x : C → Fraction)
     → IsSame (value_at columns (λ c. difference_of (t c) (product_of f (u c))) x) (difference_of (value_at columns t x) (product_of f (value_at columns u x)))
@@ -92,7 +112,7 @@ value_at-pivoted columns constant other f y p tc q t u x h0 h1 h2 h3 h4 h5 h6 ht
     (product_of_den f (u (get_or columns i d)) h2 (hu i d below))) hx)
     (value_at-reduced_row columns f t u x) factor pivot
 
--- ---- what a pivot does to a row is linear in the row: t and c give each row's number in a column and in the pivot column
+-- ---- what a pivot does to a row is linear in the row
 linear_step : (y t c g r s e n : Fraction) → IsSame (difference_of s (product_of (product_of e g) r)) n
     → IsSame (difference_of (sum_of (product_of y t) s) (product_of (product_of (sum_of (product_of y c) e) g) r))
     (sum_of (product_of y (difference_of t (product_of (product_of c g) r))) n)
@@ -101,11 +121,9 @@ linear_step y t c g r s e n h =
     (x0 ⊗ x1 ⊕ x5 ⊕ minus ((x0 ⊗ x2 ⊕ x6) ⊗ x3 ⊗ x4)) (x0 ⊗ (x1 ⊕ minus (x2 ⊗ x3 ⊗ x4)) ⊕ x7)
     ((den_of (x0 ⊗ x0 ⊗ x0 ⊗ x1 ⊗ x1 ⊗ x2 ⊗ x2 ⊗ x3 ⊗ x4), x5 ⊕ minus (x6 ⊗ x3 ⊗ x4), x7) ∷ []) (h, tt) refl
 
-pub difference_of-total_of : {R : Type 0} (rows : List R) (y t c : R → Fraction) (g r : Fraction)
-    → IsSame (difference_of (total_of (λ i. product_of (y i) (t i)) rows) (product_of (product_of (total_of (λ i. product_of (y i) (c i)) rows) g) r))
-    (total_of (λ i. product_of (y i) (difference_of (t i) (product_of (product_of (c i) g) r))) rows)
-difference_of-total_of [] y t c g r = same_by_ring (g ∷ r ∷ []) (number (pos 0) ⊕ minus (number (pos 0) ⊗ x0 ⊗ x1)) (number (pos 0)) refl
-difference_of-total_of (i ∷ rows) y t c g r =
-    linear_step (y i) (t i) (c i) g r (total_of (λ i. product_of (y i) (t i)) rows) (total_of (λ i. product_of (y i) (c i)) rows)
-    (total_of (λ i. product_of (y i) (difference_of (t i) (product_of (product_of (c i) g) r))) rows)
-    (difference_of-total_of rows y t c g r)
+pub pivoted_number-value_at : {R : Type 0} (rows : List R) (y t p : R → Fraction) (g r : Fraction)
+    → IsSame (pivoted_number (value_at rows y t) (value_at rows y p) g r) (value_at rows y (λ i. pivoted_number (t i) (p i) g r))
+pivoted_number-value_at [] y t p g r = same_by_ring (g ∷ r ∷ []) (number (pos 0) ⊕ minus (number (pos 0) ⊗ x0 ⊗ x1)) (number (pos 0)) refl
+pivoted_number-value_at (i ∷ rows) y t p g r =
+    linear_step (y i) (t i) (p i) g r (value_at rows y t) (value_at rows y p) (value_at rows y (λ i. pivoted_number (t i) (p i) g r))
+    (pivoted_number-value_at rows y t p g r)

@@ -1,13 +1,14 @@
 -- Each fraction has one floor and one ceiling.
 use Rattle.std.proofs.Common.{◌≡◌, ◌∙◌, sym, refl, ap, subst, ℕ, ◌+◌, ◌*◌, ◌/◌, ◌<◌, ◌≤◌, ◌↔◌, arith, [], ◌∷◌, ℤ, pos, negsuc, ◌+ℤ◌, ◌-ℤ◌, ◌*ℤ◌, neg_ℤ, ◌≤ℤ◌, ◌<ℤ◌}
 use Rattle.std.proofs.lemmas.Int.{ints}
-use Rattle.qm_math.specs.Fraction.{Fraction, whole, IsAtMost, IsBelow}
+use Rattle.qm_math.specs.Fraction.{Fraction, whole, IsAtMost, IsBelow, IsSame}
 use Rattle.qm_math.specs.Arithmetic.{negated}
 use Rattle.qm_math.specs.Rounding.{IsFloor, IsCeil, quotient_down, floor_of, ceil_of}
 use Rattle.qm_math.proofs.Whole.{add-*ℤ}
 use Rattle.qm_math.proofs.Polynomials.{number, ◌⊕◌, ◌⊗◌, minus}
 use Rattle.qm_math.proofs.Ring.{x0, x1, x2, ring_le, ring_lt}
 use Rattle.qm_math.proofs.Compare.{at_most_trans, at_most_below, below_at_most}
+use Rattle.qm_math.proofs.FractionOrder.{at_most-same}
 use Rattle.qm_math.proofs.FractionLaws.{whole_den, negated_den}
 
 -- ---- there is one
@@ -49,6 +50,13 @@ IsFloor-one m n a h k =
     let second = (IsFloor-greatest m a n h).0 k.0 in
     omega (arith, ints, first, second)
 
+-- the same number has the same floor
+pub IsFloor-same : (n : ℤ) (a b : Fraction) → 0 < a.den → 0 < b.den → IsSame a b → IsFloor n a → IsFloor n b
+IsFloor-same n a b ha hb e floor = (
+  at_most_trans (whole n) a b ha floor.0 (at_most-same a b e),
+  at_most_below b a (whole (n +ℤ pos 1)) hb (at_most-same b a (sym e)) floor.1,
+)
+
 -- ---- the same turned round
 pub IsCeil-least : (n : ℤ) (a : Fraction) (k : ℤ) → IsCeil n a → IsAtMost a (whole k) ↔ (n ≤ℤ k)
 IsCeil-least n a k ceil = (
@@ -62,6 +70,12 @@ IsCeil-one m n a h k =
     let first = (IsCeil-least m a n h).0 k.0 in
     let second = (IsCeil-least n a m k).0 h.0 in
     omega (arith, ints, first, second)
+
+pub IsCeil-same : (n : ℤ) (a b : Fraction) → 0 < a.den → 0 < b.den → IsSame a b → IsCeil n a → IsCeil n b
+IsCeil-same n a b ha hb e ceil = (
+  at_most_trans b a (whole n) ha (at_most-same b a (sym e)) ceil.0,
+  below_at_most (whole (n -ℤ pos 1)) a b hb ceil.1 (at_most-same a b e),
+)
 
 -- the negative of a floor is the ceiling of the negative
 pub IsCeil-negated : (n : ℤ) (a : Fraction) → IsFloor n (negated a) → IsCeil (neg_ℤ n) a

@@ -85,3 +85,13 @@ sum_of_products-set (k ∷ ks) (v ∷ vs) zero l w d e h i = set_here k l v w (s
 sum_of_products-set (k ∷ ks) (v ∷ vs) (suc c) l w d e h i =
     set_later (product_of k v) (sum_of_products (set ks c l) (set vs c w)) (product_of (get_or ks c d) (get_or vs c e)) (sum_of_products ks vs) (product_of l w)
     (sum_of_products-set ks vs c l w d e (omega arith) (omega arith))
+
+-- a value put in one place
+pub sum_of_products-set_value : (ks vs : List Fraction) (c : ℕ) (w d e : Fraction) → c < length ks → c < length vs
+    → IsSame (sum_of (sum_of_products ks (set vs c w)) (product_of (get_or ks c d) (get_or vs c e))) (sum_of (sum_of_products ks vs) (product_of (get_or ks c d) w))
+sum_of_products-set_value [] vs c w d e h i = absurd (omega arith)
+sum_of_products-set_value (k ∷ ks) [] c w d e h i = absurd (omega arith)
+sum_of_products-set_value (k ∷ ks) (v ∷ vs) zero w d e h i = set_here k k v w (sum_of_products ks vs)
+sum_of_products-set_value (k ∷ ks) (v ∷ vs) (suc c) w d e h i =
+    set_later (product_of k v) (sum_of_products ks (set vs c w)) (product_of (get_or ks c d) (get_or vs c e)) (sum_of_products ks vs) (product_of (get_or ks c d) w)
+    (sum_of_products-set_value ks vs c w d e (omega arith) (omega arith))

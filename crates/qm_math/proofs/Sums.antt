@@ -79,10 +79,10 @@ sum_from-places f first (x ∷ xs) d =
     let none : first - first ≡ 0 = omega arith in
     let here : get_or (x ∷ xs) (first - first) d ≡ x = ap (λ k. get_or (x ∷ xs) k d) none in
     let next : sum_from f (suc first) xs ≡ sum_of_each (λ i. f i (get_or xs (i - (first + 1)) d)) numbers =
-      ap (λ k. sum_from f k xs) (sym (add-one first)) ∙ sum_from-places f (first + 1) xs d in
+    ap (λ k. sum_from f k xs) (sym (add-one first)) ∙ sum_from-places f (first + 1) xs d in
     let later : sum_of_each (λ i. f i (get_or xs (i - (first + 1)) d)) numbers ≡ sum_of_each (λ i. f i (get_or (x ∷ xs) (i - first) d)) numbers =
-      sum_of_each-same (λ i. f i (get_or xs (i - (first + 1)) d)) (λ i. f i (get_or (x ∷ xs) (i - first) d)) numbers
-        (λ k e low.
-          (let number : get_or numbers k e ≡ (first + 1) + k = get_or-range_with_len (first + 1) (length xs) k e (omega (arith, length-range_with_len (first + 1) (length xs))) in
-          ap (f (get_or numbers k e)) (later_item x xs first (get_or numbers k e) d (omega arith)))) in
+    sum_of_each-same (λ i. f i (get_or xs (i - (first + 1)) d)) (λ i. f i (get_or (x ∷ xs) (i - first) d)) numbers
+    (λ k e low.
+    (let number : get_or numbers k e ≡ (first + 1) + k = get_or-range_with_len (first + 1) (length xs) k e (omega (arith, length-range_with_len (first + 1) (length xs))) in
+    ap (f (get_or numbers k e)) (later_item x xs first (get_or numbers k e) d (omega arith)))) in
     ap₂ (λ a b. f first a +ℤ b) (sym here) (next ∙ later)

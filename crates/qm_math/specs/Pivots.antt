@@ -16,3 +16,8 @@ pivoted_row ks factor others c = slice_set (reduced_row ks factor others) c fact
 -- its constant
 abbrev pub pivoted_constant : Fraction → Fraction → Fraction → Fraction
 pivoted_constant constant factor other = difference_of constant (product_of factor other)
+
+-- A row's number in a column after the pivot: t less p g r, where t and p are the row's numbers in the column and in
+-- the pivot column, r is the pivot row's in the column, and g is 1 over the pivot row's in the pivot column.
+abbrev pub pivoted_number : Fraction → Fraction → Fraction → Fraction → Fraction
+pivoted_number t p g r = difference_of t (product_of (product_of p g) r)

@@ -36,5 +36,6 @@ pub use order::{
 pub use signs::products_of_whole_numbers_keep_orders;
 pub use tables::{
     a_combination_bounds, a_combination_has_the_rows_values, a_combination_refutes,
-    a_pivot_is_linear, a_pivot_keeps_every_row, a_whole_row_is_rounded_down,
+    a_pivot_is_linear, a_pivot_keeps_every_row, a_shift_keeps_every_row,
+    a_whole_row_is_rounded_down,
 };

@@ -7,3 +7,6 @@ mod search;
 mod value;
 
 pub use value::minimax_value;
+
+#[cfg(test)]
+mod tests;

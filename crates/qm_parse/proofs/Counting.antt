@@ -1,5 +1,5 @@
 -- Items that each stand in a list, each once, are no more than the list has.
-use Rattle.std.proofs.Common.{◌≡◌, ◌≢◌, ℕ, ◌<◌, ◌≤◌, Bool, true, false, List, length, get_or, map, eqb, ⊎_elim, refl, sym, ap, ◌∙◌, subst, Decides, arith}
+use Rattle.std.proofs.Common.{◌≡◌, ◌≢◌, ℕ, ◌<◌, ◌≤◌, Bool, true, List, length, get_or, map, eqb, ⊎_elim, refl, sym, ap, ◌∙◌, subst, Decides, arith}
 use Rattle.std.specs.Prelude.{All, AllPairs, Contains}
 use Rattle.std.specs.List.{list_any, position_or_len}
 use Rattle.std.proofs.lemmas.Bool.{cases_lt, false≢true}

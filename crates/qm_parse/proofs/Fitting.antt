@@ -1,6 +1,6 @@
 -- Lists of names that fit one another: by the tests and by the facts.
-use Rattle.std.proofs.Common.{◌≡◌, ℕ, ◌≤◌, Bool, true, List, length, not, ◌&&◌, ap, refl, sym, ◌∙◌, subst, Decides}
-use Rattle.std.specs.Prelude.{All, Contains}
+use Rattle.std.proofs.Common.{◌≡◌, ℕ, ◌≤◌, Bool, List, length, not, ◌&&◌, ap, refl, sym, ◌∙◌, subst, Decides}
+use Rattle.std.specs.Prelude.{Contains}
 use Rattle.std.specs.List.{list_all}
 use Rattle.std.proofs.lemmas.Bool.Decides.{Decides-by_and, Decides-and, Decides-not, Decides-like, Decides-at}
 use Rattle.qm_parse.specs.declared.written.Written.{Written}

@@ -1,3 +1,5 @@
+pub mod Conditions
+pub mod Digits
 pub mod Items
 pub mod ReadIsWritten
 pub mod Shrinks

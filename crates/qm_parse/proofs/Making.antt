@@ -1,6 +1,6 @@
 -- The problem of a small text is made from its parts, exactly where its names are right.
 use Rattle.std.proofs.Common.{◌≡◌, ℕ, ◌≤◌, Bool, List, [], ◌∷◌, length, map, refl, sym, ap, ◌∙◌, subst, if◌then◌else◌, pos, true, arith}
-use Rattle.std.specs.Prelude.{All, Contains}
+use Rattle.std.specs.Prelude.{Contains}
 use Rattle.std.specs.Str.{bytes_eq}
 use Rattle.std.proofs.lemmas.List.Elements.{All-contains}
 use Rattle.std.proofs.lemmas.Slice.Eq.{bytes_eq-Decides}
@@ -10,15 +10,12 @@ use Rattle.qm_model.specs.declared.row.Row.{Row}
 use Rattle.qm_model.specs.declared.row.Term.{Term}
 use Rattle.qm_model.specs.declared.variable.Player.TheVariants.{Exists, All as Universal}
 use Rattle.qm_model.specs.declared.variable.Var.{Var}
-use Rattle.qm_model.specs.Sound.{IsSound}
 use Rattle.qm_parse.specs.declared.written.Written.{Written}
 use Rattle.qm_parse.specs.declared.written.WrittenRow.{WrittenRow}
 use Rattle.qm_parse.specs.declared.written.WrittenTerm.{WrittenTerm}
 use Rattle.qm_parse.specs.Names.{AreKnown, AreOver, AreRowsOver, ListsFit, NamesRight}
 use Rattle.qm_parse.specs.Problems.{problem_of, row_of, stands_in, terms_of, var_of}
-use Rattle.qm_parse.specs.Smallness.{AreSmall, IsSmallRow}
 use Rattle.qm_parse.proofs.Counting.{length-le_among}
-use Rattle.qm_parse.proofs.Soundness.{problem_sound}
 
 -- lists that fit have at most 16 names in ORDER too
 pub few_in_order : (written : Written) → ListsFit written → length written.order ≤ 16

@@ -9,9 +9,10 @@ use Rattle.qm_parse.specs.declared.written.WrittenRow.{WrittenRow}
 use Rattle.qm_parse.specs.declared.written.WrittenTerm.{WrittenTerm}
 use Rattle.qm_parse.specs.Spelling.{is_name, is_number, value_of}
 use Rattle.qm_parse.specs.Grammar.{Each, Literal, Name, Number, NewLine, Sign, Factor, Term, Terms, Right, Row, Objective, Rows, Names, OptionalNames, SmallText}
-use Rattle.qm_parse.specs.Reading.{◌>>=◌, at_most, each_at, literal_at, name_at, number_at, new_line_at, sign_at, factor_at, term_at, more_terms_at, terms_at, right_at, row_at, objective_at, rows_at, names_at, optional_names_at, is_nothing, is_end, small_text_at}
+use Rattle.qm_parse.specs.Reading.{◌>>=◌, at_most, each_at, literal_at, name_at, number_at, new_line_at, sign_at, factor_at, term_at, more_terms_at, terms_at, below_zero_at, right_at, row_at, objective_at, rows_at, names_at, optional_names_at, is_nothing, is_end, small_text_at}
 use Rattle.qm_parse.proofs.Items.{option_cases, at_most-none, at_most-some}
-use Rattle.qm_parse.proofs.Steps.{some_is, bind_some, test_some, sign_minus, sign_plus, sign_none, factor_some, factor_none, terms_some, terms_none, right_minus, right_minus_none, right_plain, right_plain_none, optional_names_some, optional_names_none, end_some, end_none, row_steps, text_objective, text_rows, text_binaries, text_ordered}
+use Rattle.qm_parse.proofs.Conditions.{test_some}
+use Rattle.qm_parse.proofs.Steps.{some_is, bind_some, sign_minus, sign_plus, sign_none, factor_some, factor_none, terms_some, terms_none, right_plain, right_below_zero, optional_names_some, optional_names_none, end_some, end_none, row_steps, text_objective, text_rows, text_binaries, text_ordered}
 
 pub literal_takes : (spelling : List ℕ) (ws rest : List Word) → literal_at spelling ws ≡ Some rest → Literal spelling ws rest
 unfolding literal_at
@@ -105,23 +106,22 @@ terms_take ws =
       | inr x ↦ rw (terms_some ws x.0 x.1) (more_terms_take x.0.0 ws x.0.1 (term_takes true ws x.0 x.1))
     ]
 
+below_zero_takes : (ws : List Word) (x : ℤ × List Word) → below_zero_at ws ≡ Some x → Right x.0 ws x.1
+unfolding below_zero_at
+below_zero_takes ws x e =
+    let behind = bind_some (literal_at (codes "-") ws) (λ rest. number_at rest >>= λ n. Some (neg_ℤ (pos n.0), n.1)) x e in
+    let n = bind_some (number_at behind.0) (λ n. Some (neg_ℤ (pos n.0), n.1)) x behind.2 in
+    let made : ℤ × List Word = (neg_ℤ (pos n.0.0), n.0.1) in
+    subst (λ (y : ℤ × List Word). Right y.0 ws y.1) (some_is made x n.2)
+    (n.0.0, inr (refl, (behind.0, literal_takes (codes "-") ws behind.0 behind.1, number_takes behind.0 n.0 n.1)))
+
 right_takes : (ws : List Word) (x : ℤ × List Word) → right_at ws ≡ Some x → Right x.0 ws x.1
 right_takes ws x e =
-    elim (option_cases (literal_at (codes "-") ws)) [
-      | inr minus ↦
-          elim (option_cases (number_at minus.0)) [
-            | inr n ↦
-                let is : (neg_ℤ (pos n.0.0), n.0.1) ≡ x = some_is _ x (sym (right_minus ws minus.0 n.0 minus.1 n.1) ∙ e) in
-                subst (λ (y : ℤ × List Word). Right y.0 ws y.1) is (n.0.0, inr (refl, (minus.0, literal_takes (codes "-") ws minus.0 minus.1, number_takes minus.0 n.0 n.1)))
-            | inl none ↦ let gone = right_minus_none ws minus.0 minus.1 none in absurd cc
-          ]
-      | inl no_minus ↦
-          elim (option_cases (number_at ws)) [
-            | inr n ↦
-                let is : (pos n.0.0, n.0.1) ≡ x = some_is _ x (sym (right_plain ws n.0 no_minus n.1) ∙ e) in
-                subst (λ (y : ℤ × List Word). Right y.0 ws y.1) is (n.0.0, inl (refl, number_takes ws n.0 n.1))
-            | inl none ↦ let gone = right_plain_none ws no_minus none in absurd cc
-          ]
+    elim (option_cases (number_at ws)) [
+      | inl none ↦ below_zero_takes ws x (sym (right_below_zero ws none) ∙ e)
+      | inr n ↦
+          let made : ℤ × List Word = (pos n.0.0, n.0.1) in
+          subst (λ (y : ℤ × List Word). Right y.0 ws y.1) (some_is made x (sym (right_plain ws n.0 n.1) ∙ e)) (n.0.0, inl (refl, number_takes ws n.0 n.1))
     ]
 
 more_terms_some : (first : WrittenTerm) (ws : List Word) → (more_terms_at first ws).0 ≡ [] → ⊥

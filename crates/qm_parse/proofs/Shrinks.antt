@@ -1,14 +1,15 @@
 -- What is read takes one word at least.
-use Rattle.std.proofs.Common.{◌≡◌, ℕ, ◌<◌, ◌≤◌, Bool, true, false, cond, List, [], ◌∷◌, length, Some, None, ℤ, pos, inl, inr, refl, ap, arith}
+use Rattle.std.proofs.Common.{◌≡◌, ℕ, ◌<◌, ◌≤◌, Bool, true, false, cond, List, [], ◌∷◌, length, Some, None, ℤ, pos, inl, inr, refl, sym, ap, ◌∙◌, arith}
 use Rattle.std.specs.Prelude.{codes, neg_ℤ}
 use Rattle.std.specs.Str.{bytes_eq}
 use Rattle.qm_parse.specs.declared.words.Word.{Word}
 use Rattle.qm_parse.specs.declared.written.WrittenRow.{WrittenRow}
 use Rattle.qm_parse.specs.declared.written.WrittenTerm.{WrittenTerm}
 use Rattle.qm_parse.specs.Spelling.{is_name, is_number, value_of}
-use Rattle.qm_parse.specs.Reading.{◌>>=◌, literal_at, name_at, number_at, new_line_at, sign_at, factor_at, term_at, more_terms_at, right_at, row_at}
+use Rattle.qm_parse.specs.Reading.{◌>>=◌, literal_at, name_at, number_at, new_line_at, sign_at, factor_at, term_at, more_terms_at, below_zero_at, right_at, row_at}
 use Rattle.qm_parse.proofs.Items.{option_cases, each_at-shrinks}
-use Rattle.qm_parse.proofs.Steps.{some, some_is, bind_some, test_some, row_steps}
+use Rattle.qm_parse.proofs.Conditions.{test_some}
+use Rattle.qm_parse.proofs.Steps.{some, some_is, bind_some, right_plain, right_below_zero, row_steps}
 
 pub literal_at-shrinks : (spelling : List ℕ) (ws rest : List Word) → literal_at spelling ws ≡ Some rest → length rest < length ws
 unfolding literal_at
@@ -68,21 +69,22 @@ more_terms_at-shrinks : (first : WrittenTerm) (ws : List Word) → length (more_
 unfolding more_terms_at
 more_terms_at-shrinks first ws = each_at-shrinks (term_at false) ws (term_at-shrinks false)
 
+below_zero_at-shrinks : (ws : List Word) (x : ℤ × List Word) → below_zero_at ws ≡ Some x → length x.1 ≤ length ws
+unfolding below_zero_at
+below_zero_at-shrinks ws x e =
+    let behind = bind_some (literal_at (codes "-") ws) (λ rest. number_at rest >>= λ n. Some (neg_ℤ (pos n.0), n.1)) x e in
+    let n = bind_some (number_at behind.0) (λ n. Some (neg_ℤ (pos n.0), n.1)) x behind.2 in
+    let a = literal_at-shrinks (codes "-") ws behind.0 behind.1 in
+    let b = number_at-shrinks behind.0 n.0 n.1 in
+    omega (arith, ap (λ y. length y.1) (some_is _ x n.2))
+
 right_at-shrinks : (ws : List Word) (x : ℤ × List Word) → right_at ws ≡ Some x → length x.1 ≤ length ws
-unfolding right_at
 right_at-shrinks ws x e =
-    elim (option_cases (literal_at (codes "-") ws)) [
-      | inl no_minus ↦
-          let found : (number_at ws >>= λ n. some (pos n.0, n.1)) ≡ Some x = rw (← e, no_minus, right_at) refl in
-          let n = bind_some (number_at ws) (λ n. some (pos n.0, n.1)) x found in
+    elim (option_cases (number_at ws)) [
+      | inl none ↦ below_zero_at-shrinks ws x (sym (right_below_zero ws none) ∙ e)
+      | inr n ↦
           let fewer = number_at-shrinks ws n.0 n.1 in
-          omega (arith, ap (λ y. length y.1) (some_is _ x n.2))
-      | inr minus ↦
-          let found : (number_at minus.0 >>= λ n. some (neg_ℤ (pos n.0), n.1)) ≡ Some x = rw (← e, minus.1, right_at) refl in
-          let n = bind_some (number_at minus.0) (λ n. some (neg_ℤ (pos n.0), n.1)) x found in
-          let behind_minus = literal_at-shrinks (codes "-") ws minus.0 minus.1 in
-          let fewer = number_at-shrinks minus.0 n.0 n.1 in
-          omega (arith, ap (λ y. length y.1) (some_is _ x n.2))
+          omega (arith, ap (λ y. length y.1) (some_is _ x (sym (right_plain ws n.0 n.1) ∙ e)))
     ]
 
 new_line_at-same : (ws rest : List Word) → new_line_at ws ≡ Some rest → ws ≡ rest

@@ -1,5 +1,5 @@
 -- The problem of a small text is in order.
-use Rattle.std.proofs.Common.{◌≡◌, ℕ, ◌+◌, ◌*◌, ◌<◌, ◌≤◌, ◌^◌, Bool, true, List, [], length, take, drop, get_or, map, Some, None, Option, refl, sym, ap, ◌∙◌, subst, arith, ℤ, pos, unsigned_abs}
+use Rattle.std.proofs.Common.{◌≡◌, ℕ, ◌≤◌, ◌^◌, List, length, get_or, map, Some, None, refl, sym, subst, arith, unsigned_abs}
 use Rattle.std.specs.Prelude.{All, slice_get}
 use Rattle.std.specs.Option.{option_map, option_map_or}
 use Rattle.std.proofs.lemmas.Int.{ints}
@@ -7,7 +7,6 @@ use Rattle.std.proofs.lemmas.List.{drop_all, length-map}
 use Rattle.std.proofs.lemmas.List.Elements.{All-nil, All-map, All-take, All-weaker}
 use Rattle.std.proofs.lemmas.Option.{slice_get-map}
 use Rattle.qm_math.specs.Ranges.{reach}
-use Rattle.qm_model.specs.declared.row.Row.{Row}
 use Rattle.qm_model.specs.declared.variable.Var.{Var}
 use Rattle.qm_model.specs.Sizes.{reach_in_vars, terms_size}
 use Rattle.qm_model.specs.Sound.{IsContinuous, IsRowOver, IsSound, IsWhole}

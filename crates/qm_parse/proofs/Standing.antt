@@ -1,6 +1,6 @@
 -- Names that stand among names: by the test and by the fact, and by their number.
-use Rattle.std.proofs.Common.{◌≡◌, ◌≢◌, ℕ, ◌+◌, ◌<◌, Bool, true, false, cond, not, ◌||◌, List, [], ◌∷◌, ◌++◌, take, arith, length-take, length, Some, None, Option, get_or, refl, subst, sym, ap, ◌∙◌, Decides, rules}
-use Rattle.std.specs.Prelude.{slice_get, position, is_some, IsTrue, AllPairs, Contains, MatchOption}
+use Rattle.std.proofs.Common.{◌≡◌, ℕ, ◌+◌, ◌<◌, Bool, true, false, cond, not, ◌||◌, List, [], ◌∷◌, ◌++◌, take, arith, length-take, length, Some, None, Option, get_or, refl, subst, sym, ap, ◌∙◌, Decides}
+use Rattle.std.specs.Prelude.{slice_get, position, is_some, IsTrue, Contains, MatchOption}
 use Rattle.std.specs.List.{list_any, IsDistinct}
 use Rattle.std.specs.Str.{bytes_eq}
 use Rattle.std.proofs.lemmas.Bool.{false≢true}

@@ -1,21 +1,16 @@
 -- One step of each reader on lists: what it answers where its first part was read, and where not.
-use Rattle.std.proofs.Common.{◌≡◌, ℕ, ℤ, pos, Bool, true, false, cond, List, [], Option, Some, None, refl, sym, ap, subst}
+use Rattle.std.proofs.Common.{◌≡◌, ℕ, ℤ, pos, Bool, true, false, cond, List, [], Option, Some, None, refl, sym, ap, ◌∙◌}
 use Rattle.std.specs.Prelude.{codes, neg_ℤ}
 use Rattle.qm_parse.specs.declared.words.Word.{Word}
 use Rattle.qm_parse.specs.declared.written.Written.{Written}
 use Rattle.qm_parse.specs.declared.written.WrittenRow.{WrittenRow}
 use Rattle.qm_parse.specs.declared.written.WrittenTerm.{WrittenTerm}
-use Rattle.qm_parse.specs.Reading.{◌>>=◌, literal_at, number_at, new_line_at, sign_at, factor_at, term_at, more_terms_at, terms_at, right_at, row_at, rows_at, names_at, optional_names_at, is_nothing, is_end}
+use Rattle.qm_parse.specs.Reading.{◌>>=◌, literal_at, number_at, new_line_at, sign_at, factor_at, term_at, more_terms_at, terms_at, below_zero_at, right_at, row_at, rows_at, names_at, optional_names_at, is_nothing, is_end}
 
 -- the value of a step that did not fail
 pub bind_some : {A B : Type 0} (o : Option A) (f : A → Option B) (y : B) → (o >>= f) ≡ Some y → (x : A) × (o ≡ Some x) × (f x ≡ Some y)
 bind_some (Some x) f y e = (x, refl, e)
 bind_some None f y e = absurd cc
-
--- a test that did not fail
-pub test_some : {A : Type 0} (b : Bool) (x y : A) → cond b (Some x) None ≡ Some y → (b ≡ true) × (x ≡ y)
-test_some true x y e = (refl, cc)
-test_some false x y e = absurd cc
 
 abbrev pub some : {A : Type 0} → A → Option A
 some x = Some x
@@ -52,22 +47,17 @@ pub terms_none : (ws : List Word) → term_at true ws ≡ None → terms_at ws �
 unfolding terms_at
 terms_none ws e = rw (e, terms_at) refl
 
--- a right side with a minus, and one with none
-pub right_minus : (ws behind : List Word) (n : ℕ × List Word) → literal_at (codes "-") ws ≡ Some behind → number_at behind ≡ Some n → right_at ws ≡ Some (neg_ℤ (pos n.0), n.1)
-unfolding right_at
-right_minus ws behind n e f = rw (e, f, right_at) refl
+pub below_zero_some : (ws behind : List Word) (n : ℕ × List Word) → literal_at (codes "-") ws ≡ Some behind → number_at behind ≡ Some n → below_zero_at ws ≡ Some (neg_ℤ (pos n.0), n.1)
+unfolding below_zero_at
+below_zero_some ws behind n e f = rw (e, f) refl
 
-pub right_minus_none : (ws behind : List Word) → literal_at (codes "-") ws ≡ Some behind → number_at behind ≡ None → right_at ws ≡ None
+pub right_plain : (ws : List Word) (n : ℕ × List Word) → number_at ws ≡ Some n → right_at ws ≡ Some (pos n.0, n.1)
 unfolding right_at
-right_minus_none ws behind e f = rw (e, f, right_at) refl
+right_plain ws n e = rw (e, right_at) refl
 
-pub right_plain : (ws : List Word) (n : ℕ × List Word) → literal_at (codes "-") ws ≡ None → number_at ws ≡ Some n → right_at ws ≡ Some (pos n.0, n.1)
+pub right_below_zero : (ws : List Word) → number_at ws ≡ None → right_at ws ≡ below_zero_at ws
 unfolding right_at
-right_plain ws n e f = rw (e, f, right_at) refl
-
-pub right_plain_none : (ws : List Word) → literal_at (codes "-") ws ≡ None → number_at ws ≡ None → right_at ws ≡ None
-unfolding right_at
-right_plain_none ws e f = rw (e, f, right_at) refl
+right_below_zero ws e = rw (e, right_at) refl
 
 pub optional_names_some : (heading : List ℕ) (ws : List Word) (x : List (List ℕ) × List Word) → names_at heading ws ≡ Some x → optional_names_at heading ws ≡ x
 unfolding optional_names_at
@@ -117,6 +107,9 @@ made_is first right rest x e =
     let is : made ≡ x = some_is made x e in
     (ap (λ y. y.1) is, ap (λ y. y.0.terms) (sym is), ap (λ y. y.0.right) (sym is))
 
+some_same : {A : Type 0} (o : Option A) (x y : A) → o ≡ Some x → x ≡ y → o ≡ Some y
+some_same o x y e same = e ∙ ap (λ z. Some z) same
+
 pub row_steps : (ws : List Word) (x : WrittenRow × List Word) → row_at ws ≡ Some x → RowSteps ws x
 unfolding row_at
 row_steps ws x e =
@@ -132,7 +125,7 @@ row_steps ws x e =
       first_is = first.1;
       is_most_is = is_most.1;
       right_is = right.1;
-      line_is = subst (λ (r : List Word). new_line_at right.0.1 ≡ Some r) made.0 rest.1;
+      line_is = some_same (new_line_at right.0.1) rest.0 x.1 rest.1 made.0;
       terms_is = made.1;
       value_is = made.2;
     }

@@ -1,5 +1,5 @@
 -- What is written so is read: the grammar, and the readers on lists.
-use Rattle.std.proofs.Common.{◌≡◌, ℕ, ℤ, Bool, true, false, cond, not, ◌&&◌, List, [], ◌∷◌, Option, Some, None, inl, inr, refl, sym, ap, subst, ◌∙◌, arith}
+use Rattle.std.proofs.Common.{◌≡◌, ℕ, ℤ, Bool, true, false, cond, not, List, [], ◌∷◌, Option, Some, None, inl, inr, refl, sym, ap, subst, ◌∙◌, arith}
 use Rattle.std.specs.Prelude.{codes}
 use Rattle.std.specs.Char.{is_ascii_alphabetic, is_ascii_digit}
 use Rattle.std.specs.Str.{bytes_eq}
@@ -15,7 +15,8 @@ use Rattle.qm_parse.specs.Grammar.{Each, Literal, Name, Number, NewLine, Sign, F
 use Rattle.qm_parse.specs.Reading.{each_at, literal_at, name_at, number_at, new_line_at, sign_at, factor_at, term_at, more_terms_at, terms_at, right_at, row_at, objective_at, rows_at, names_at, optional_names_at, is_end, small_text_at}
 use Rattle.qm_parse.proofs.Items.{Shrinks, with_front, each_at-none, each_at-some}
 use Rattle.qm_parse.proofs.Shrinks.{name_at-shrinks, term_at-shrinks, row_at-shrinks}
-use Rattle.qm_parse.proofs.Steps.{sign_minus, sign_plus, sign_none, factor_some, factor_none, terms_some, terms_none, right_minus, right_plain, optional_names_some, optional_names_none, end_some}
+use Rattle.qm_parse.proofs.Conditions.{and_true, cond_true}
+use Rattle.qm_parse.proofs.Steps.{sign_minus, sign_plus, sign_none, factor_some, factor_none, terms_some, terms_none, right_plain, right_below_zero, below_zero_some, optional_names_some, optional_names_none, end_some}
 
 -- ---- single words
 
@@ -53,14 +54,10 @@ number_none : (w : Word) (ws : List Word) → is_number w.bytes ≡ false → nu
 unfolding number_at
 number_none w ws e = rw e refl
 
-chosen : (b : Bool) (ws : List Word) → b ≡ true → cond b (Some ws) None ≡ Some ws
-chosen true ws e = refl
-chosen false ws e = absurd cc
-
 new_line_again : (ws rest : List Word) → NewLine ws rest → new_line_at ws ≡ Some rest
 unfolding new_line_at
 new_line_again [] rest p = absurd p
-new_line_again (w ∷ ws) rest p = chosen w.after_line (w ∷ ws) p.0 ∙ ap (λ r. Some r) p.1
+new_line_again (w ∷ ws) rest p = cond_true w.after_line (w ∷ ws) p.0 ∙ ap (λ r. Some r) p.1
 
 -- a word of one kind is no word that is not of the kind
 other_word : (kind : List ℕ → Bool) (bytes spelling : List ℕ) → kind bytes ≡ true → kind spelling ≡ false → bytes_eq bytes spelling ≡ false
@@ -69,10 +66,6 @@ other_word kind bytes spelling is isnt =
       | inl same ↦ let e = ap kind ((bytes_eq-Decides bytes spelling).0 same) in absurd cc
       | inr differs ↦ differs
     ]
-
-and_true : (a b : Bool) → (a && b) ≡ true → (a ≡ true) × (b ≡ true)
-and_true true b e = (refl, e)
-and_true false b e = absurd cc
 
 letter_no_digit : (byte : ℕ) → is_ascii_alphabetic byte ≡ true → is_ascii_digit byte ≡ true → ⊥
 letter_no_digit byte p q = grind (arith, nat_tests)
@@ -190,11 +183,16 @@ terms_again (term ∷ terms) ws rest p none = terms_some ws (term, p.0) (term_ag
 
 -- ---- rows
 
+no_number_at_minus : (ws rest : List Word) → Literal (codes "-") ws rest → number_at ws ≡ None
+no_number_at_minus [] rest p = absurd p
+no_number_at_minus (w ∷ ws) rest p = number_none w ws (ap is_number p.0 ∙ minus_no_number)
+
 right_again : (right : ℤ) (ws rest : List Word) → Right right ws rest → right_at ws ≡ Some (right, rest)
-right_again right ws rest (n, inl p) =
-    right_plain ws (n, rest) (literal_no_number (codes "-") n ws rest minus_no_number p.1) (number_again n ws rest p.1) ∙ ap (λ z. Some (z, rest)) (sym p.0)
+right_again right ws rest (n, inl p) = right_plain ws (n, rest) (number_again n ws rest p.1) ∙ ap (λ z. Some (z, rest)) (sym p.0)
 right_again right ws rest (n, inr p) =
-    right_minus ws p.1.0 (n, rest) (literal_again (codes "-") ws p.1.0 p.1.1) (number_again n p.1.0 rest p.1.2) ∙ ap (λ z. Some (z, rest)) (sym p.0)
+    right_below_zero ws (no_number_at_minus ws p.1.0 p.1.1)
+    ∙ below_zero_some ws p.1.0 (n, rest) (literal_again (codes "-") ws p.1.0 p.1.1) (number_again n p.1.0 rest p.1.2)
+    ∙ ap (λ z. Some (z, rest)) (sym p.0)
 
 is_most_no_term : BeginsNoTerm (codes "<=")
 unfolding is_name is_identifier is_number

@@ -1,5 +1,5 @@
 -- Small texts, and the problems that they state.
-use Rattle.std.specs.Prelude.{◌≡◌, ℕ, ◌≤◌, ℤ, pos, ◌≤ℤ◌, List, [], All, length}
+use Rattle.std.specs.Prelude.{◌≡◌, ℕ, ◌≤◌, pos, ◌≤ℤ◌, List, [], All, length}
 use Rattle.qm_model.specs.declared.game.Problem.{Problem}
 use Rattle.qm_model.specs.declared.game.Sense.TheVariants.{Max}
 use Rattle.qm_parse.specs.declared.written.Written.{Written}

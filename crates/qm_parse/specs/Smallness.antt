@@ -1,5 +1,5 @@
 -- Numbers that are small enough for their types.
-use Rattle.std.specs.Prelude.{ℕ, ◌<◌, ◌≤◌, ◌^◌, ℤ, unsigned_abs, List, length, All}
+use Rattle.std.specs.Prelude.{◌<◌, ◌≤◌, ◌^◌, unsigned_abs, List, length, All}
 use Rattle.qm_parse.specs.declared.written.WrittenRow.{WrittenRow}
 use Rattle.qm_parse.specs.declared.written.WrittenTerm.{WrittenTerm}
 

@@ -17,14 +17,14 @@ with_byte byte [] = []
 with_byte byte (word ∷ words) = record { bytes = byte ∷ word.bytes; after_line = false } ∷ words
 
 -- a word's byte stands first
-abbrev pub goes_on : List ℕ → Bool
-goes_on [] = false
-goes_on (byte ∷ text) = not (is_blank byte)
+abbrev pub begins_word : List ℕ → Bool
+begins_word [] = false
+begins_word (byte ∷ text) = not (is_blank byte)
 
 -- the words of a text in their order: a byte that is no blank stands at the front of the word that goes on behind it, or is a word by itself
 abbrev pub words : List ℕ → List Word
 words [] = []
 words (byte ∷ text) =
     if is_blank byte then (if byte == 10 then after_line (words text) else words text)
-    else if goes_on text then with_byte byte (words text)
+    else if begins_word text then with_byte byte (words text)
     else record { bytes = byte ∷ []; after_line = false } ∷ words text

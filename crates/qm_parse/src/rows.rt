@@ -1,5 +1,5 @@
 ghost use Rattle.std.specs.Prelude.{◌≡◌, IfOk, MatchOption};
-ghost use Rattle.qm_parse.specs.Reading.{Gives, each_at, right_at, row_at};
+ghost use Rattle.qm_parse.specs.Reading.{Gives, below_zero_at, each_at, right_at, row_at};
 
 use crate::first_word::{literal, new_line, number};
 use crate::terms::{more_terms, term};
@@ -34,15 +34,9 @@ fn row(alloc: Global, words: &[Word]) -> Result<(WrittenRow, &[Word]), Unread>
 {
     let (first, rest) = term(alloc, words, true)?;
     let (terms, rest) = more_terms(alloc, first, rest)?;
-    let Some(rest) = literal(rest, b"<=") else {
-        return Err(Unread::Grammar);
-    };
-    let Some((right, rest)) = right(rest) else {
-        return Err(Unread::Grammar);
-    };
-    let Some(rest) = new_line(rest) else {
-        return Err(Unread::Grammar);
-    };
+    let rest = literal(rest, b"<=").ok_or(Unread::Grammar)?;
+    let (right, rest) = right(rest).ok_or(Unread::Grammar)?;
+    let rest = new_line(rest).ok_or(Unread::Grammar)?;
     Ok((WrittenRow { terms, right }, rest))
 }
 
@@ -51,14 +45,18 @@ fn row(alloc: Global, words: &[Word]) -> Result<(WrittenRow, &[Word]), Unread>
 fn right(words: &[Word]) -> Option<(i64, &[Word])>
     ensures { MatchOption result (right_at words.now ≡ None) (λ x. right_at words.now ≡ Some (x.0, x.1.now)) }
 {
-    match literal(words, b"-") {
-        Some(behind) => {
-            let (n, rest) = number(behind)?;
-            Some((-i64::from(n), rest))
-        }
-        None => {
-            let (n, rest) = number(words)?;
-            Some((i64::from(n), rest))
-        }
+    if let Some((n, rest)) = number(words) {
+        return Some((i64::from(n), rest));
     }
+    below_zero(words)
+}
+
+/// A minus and a number.
+#[tactic(auto, unfolding(crate::specs::Reading::below_zero_at))]
+fn below_zero(words: &[Word]) -> Option<(i64, &[Word])>
+    ensures { MatchOption result (below_zero_at words.now ≡ None) (λ x. below_zero_at words.now ≡ Some (x.0, x.1.now)) }
+{
+    let behind = literal(words, b"-")?;
+    let (n, rest) = number(behind)?;
+    Some((-i64::from(n), rest))
 }

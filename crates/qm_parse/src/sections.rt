@@ -45,27 +45,23 @@ fn is_end(words: &[Word]) -> bool
     }
 }
 
+/// The terms to be maximized.
 #[tactic(auto, unfolding(crate::specs::Reading::objective_at))]
 fn objective(alloc: Global, words: &[Word]) -> Result<(List<WrittenTerm>, &[Word]), Unread>
     ensures { Gives (λ x. (x.0, x.1.now)) result (objective_at words.now) }
 {
-    match literal(words, b"MAXIMIZE") {
-        Some(rest) => Ok(terms(alloc, rest)?),
-        None => Err(Unread::Grammar),
-    }
+    let rest = literal(words, b"MAXIMIZE").ok_or(Unread::Grammar)?;
+    Ok(terms(alloc, rest)?)
 }
 
+/// The rows below their heading.
 #[tactic(auto, unfolding(crate::specs::Reading::rows_at))]
 fn headed_rows(alloc: Global, words: &[Word]) -> Result<(List<WrittenRow>, &[Word]), Unread>
     ensures { Gives (λ x. (x.0, x.1.now)) result (rows_at words.now) }
 {
-    let Some(rest) = literal(words, b"SUBJECT") else {
-        return Err(Unread::Grammar);
-    };
-    match literal(rest, b"TO") {
-        Some(rest) => Ok(rows(alloc, rest)?),
-        None => Err(Unread::Grammar),
-    }
+    let rest = literal(words, b"SUBJECT").ok_or(Unread::Grammar)?;
+    let rest = literal(rest, b"TO").ok_or(Unread::Grammar)?;
+    Ok(rows(alloc, rest)?)
 }
 
 /// The names below a heading.
@@ -77,10 +73,8 @@ fn headed_names<'a>(
 ) -> Result<(List<List<u8>>, &'a [Word]), Unread>
     ensures { Gives (λ x. (x.0, x.1.now)) result (names_at heading.now words.now) }
 {
-    match literal(words, heading) {
-        Some(rest) => Ok(names(alloc, rest)?),
-        None => Err(Unread::Grammar),
-    }
+    let rest = literal(words, heading).ok_or(Unread::Grammar)?;
+    Ok(names(alloc, rest)?)
 }
 
 /// The names below a heading, and none where it isn't written.

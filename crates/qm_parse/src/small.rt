@@ -25,3 +25,6 @@ pub fn read_small(alloc: Global, text: &[u8]) -> Result<Option<Game>, Memory>
     };
     game_of(alloc, &written)
 }
+
+#[cfg(test)]
+mod tests;

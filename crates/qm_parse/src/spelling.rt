@@ -76,7 +76,7 @@ fn is_same_in_any_case(word: &[u8], other: &[u8]) -> bool
 }
 
 /// The number that the word spells.
-#[tactic(auto, unfolding(crate::specs::Spelling::is_number, crate::specs::Spelling::value_of))]
+#[tactic(auto, unfolding(crate::specs::Spelling::is_number))]
 pub fn number_of(word: &[u8]) -> Option<u32>
     ensures { MatchOption result (is_number word.now ≡ false) (IsNumber word.now) }
 {

@@ -38,9 +38,7 @@ fn factor(words: &[Word]) -> (u32, &[Word])
 pub fn term(alloc: Global, words: &[Word], is_first: bool) -> Result<(WrittenTerm, &[Word]), Unread>
     ensures { Gives (λ x. (x.0, x.1.now)) result (term_at is_first words.now) }
 {
-    let Some((negative, rest)) = sign(words, is_first) else {
-        return Err(Unread::Grammar);
-    };
+    let (negative, rest) = sign(words, is_first).ok_or(Unread::Grammar)?;
     let (factor, rest) = factor(rest);
     let (name, rest) = name(alloc, rest)?;
     Ok((

@@ -1,5 +1,5 @@
 ghost use Rattle.std.specs.Prelude.{◌≡◌, ◌≢◌, ◌<◌, ◌≤◌, ◌∷◌, [], true, false, length, cond, IfOk};
-ghost use Rattle.qm_parse.specs.Words.{after_line, goes_on, is_blank, words};
+ghost use Rattle.qm_parse.specs.Words.{after_line, begins_word, is_blank, words};
 
 use qm_io::{List, Memory};
 use std::alloc::Global;
@@ -29,7 +29,7 @@ pub fn words(alloc: Global, text: &[u8]) -> Result<List<Word>, Memory>
 /// What stands behind the blanks at the front, and whether there is an LF among these.
 fn without_blanks(text: &[u8]) -> (bool, &[u8])
     ensures words { words text.now ≡ cond result.0 (after_line (words result.1.now)) (words result.1.now) }
-    ensures begins { result.1.now ≢ [] → goes_on result.1.now ≡ true }
+    ensures begins { result.1.now ≢ [] → begins_word result.1.now ≡ true }
     ensures shorter { length result.1.now ≤ length text.now }
 {
     let mut after_line = false;
@@ -44,7 +44,7 @@ fn without_blanks(text: &[u8]) -> (bool, &[u8])
 
 /// The word at the front, and what stands behind it.
 fn split_word(text: &[u8]) -> (&[u8], &[u8])
-    requires { goes_on text.now ≡ true }
+    requires { begins_word text.now ≡ true }
     ensures words { words text.now ≡ record { bytes = result.0.now; after_line = false } ∷ words result.1.now }
     ensures shorter { length result.1.now < length text.now }
 {
@@ -56,6 +56,7 @@ fn split_word(text: &[u8]) -> (&[u8], &[u8])
     (text, &[])
 }
 
+/// Whether the byte is a space or an LF.
 fn is_blank(byte: u8) -> bool
     ensures { result ≡ is_blank byte }
 {

@@ -1,9 +1,8 @@
 -- Which answers there are.
-use Rattle.std.proofs.Common.{◌≡◌, ◌⊎◌, ◌<◌, ◌-◌, ◌^◌, ◌≤◌, ◌+◌, min, ℕ, ℤ, pos, List, ◌++◌, Option, Some, None, Result, Ok, Err, IfOk, append-nil, inl, inr, arith, length, length-append, refl, sym, ap, subst, ◌∙◌, unsigned_abs}
+use Rattle.std.proofs.Common.{◌≡◌, ◌⊎◌, ◌<◌, ◌-◌, ◌^◌, ◌≤◌, ℕ, ℤ, pos, List, ◌++◌, Option, Some, None, Result, Ok, Err, IfOk, append-nil, inl, inr, arith, length, length-append, ap, subst, ◌∙◌, unsigned_abs}
 use Rattle.std.specs.Io.KnownBytes.{Consumes, IsAtEnd}
-use Rattle.qm_math.specs.Fraction.{Fraction, whole}
 use Rattle.qm_model.specs.declared.game.Problem.{Problem}
-use Rattle.qm_model.specs.Endings.{HasEnding, IsOptimal, Optimal}
+use Rattle.qm_model.specs.Endings.{HasEnding, IsOptimal}
 use Rattle.qm_minimax.specs.Answers.{ending_of}
 use Rattle.qm_parse.specs.Small.{IsSmallText}
 use Rattle.qm_top.specs.declared.command.Command.{Command}

@@ -1,5 +1,5 @@
 -- The words of a list of two.
-use Rattle.std.proofs.Common.{◌≡◌, ◌≢◌, ◌<◌, ◌≤◌, ℕ, Bool, true, false, List, [], ◌∷◌, ◌∙◌, length, map, get_or, string_bytes, String, Global, sym, ap, arith}
+use Rattle.std.proofs.Common.{◌≡◌, ◌≢◌, ◌<◌, ◌≤◌, ℕ, false, List, [], ◌∷◌, ◌∙◌, length, map, get_or, string_bytes, String, Global, sym, ap, arith}
 use Rattle.std.specs.Prelude.{◌==◌}
 
 pub two_words : (ws : List (String Global)) (v w : String Global) → 2 ≤ length ws → length ws < 3 → v ≡ get_or ws 0 v → w ≡ get_or ws 1 w

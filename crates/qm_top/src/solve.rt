@@ -5,9 +5,9 @@ ghost use Rattle.qm_top.specs.Answers.{Claims, Solves, SolvesText, reading};
 ghost use Rattle.qm_top.specs.Report.{status_of, text_of};
 
 use crate::report::{Report, infeasible_claim, optimal_claim};
+use qm_game::Game;
 use qm_io::{List, Memory, ReadFault, Source, Whole, read_all};
 use qm_minimax::minimax_value;
-use qm_game::Game;
 use qm_parse::read_small;
 use std::alloc::Global;
 

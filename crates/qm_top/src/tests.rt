@@ -109,15 +109,15 @@ fn answers_in_pieces(rt: HostRuntime) -> Result<(), Fail> {
 #[test]
 fn a_failing_read_is_told(rt: HostRuntime) -> Result<(), Fail> {
     let alloc = rt.alloc();
-    // The text has 116 bytes: 17 reads of at most 7, and one that finds its end.
-    for failing_read in 1..=19 {
+    // The text has 105 bytes: 15 reads of 7, and one that finds its end.
+    for failing_read in 1..=17 {
         let outside = Outside {
             piece: 7,
             failing_read,
             failing_write: 0,
         };
         let (answer, out) = answer_to(alloc, "solve f", SURVEY, &outside)?;
-        if failing_read <= 18 {
+        if failing_read <= 16 {
             assert_eq!(rt; answer, 3, "at read {failing_read}");
             assert_eq!(rt;
                 out.bytes(),

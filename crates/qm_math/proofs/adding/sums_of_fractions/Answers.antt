@@ -1,4 +1,5 @@
 use Rattle.qm_math.proofs.Totals.{total_of-append, product_of-total_of, total_of-sum_of, total_of-same, total_of-at_most}
+use Rattle.qm_math.proofs.Pieces.{total_of-filter}
 use Rattle.qm_math.proofs.adding.sums_of_fractions.Goals as goal
 
 pub returns-clause-joined : goal.returns-clause-joined
@@ -15,3 +16,6 @@ returns-clause-same c = total_of-same
 
 pub returns-clause-at_most : goal.returns-clause-at_most
 returns-clause-at_most c = total_of-at_most
+
+pub returns-clause-left_out : goal.returns-clause-left_out
+returns-clause-left_out c = total_of-filter

@@ -1,8 +1,7 @@
-use Rattle.std.proofs.Common.{◌≡◌, ◌≢◌, List, ℤ, pos, get_or, drop, refl, sym, ap, ◌∙◌, subst, arith}
+use Rattle.std.proofs.Common.{◌≡◌, ◌≢◌, pos, get_or, arith}
 use Rattle.std.proofs.lemmas.Int.{ints}
 use Rattle.std.proofs.lemmas.List.{get_or_default}
 use Rattle.std.specs.Int.{w128, cast_signed, cast_unsigned}
-use Rattle.qm_model.specs.Linear.{IsOrdered}
 use Rattle.qm_parse.specs.Problems.{nonzero_from}
 use Rattle.qm_parse.proofs.Nonzero.{nonzero_zero, nonzero_other, nonzero_all}
 use Rattle.qm_parse.proofs.coefficients.nonzero.Goals as goal

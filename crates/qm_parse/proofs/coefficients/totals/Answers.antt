@@ -1,7 +1,5 @@
-use Rattle.std.proofs.Common.{◌≡◌, ℕ, ◌<◌, ◌^◌, List, length, replicate, pos, sym, ap, ◌∙◌, subst, rules, arith}
-use Rattle.std.specs.Prelude.{All}
+use Rattle.std.proofs.Common.{◌≡◌, ◌<◌, ◌^◌, length, replicate, pos, ◌∙◌, subst, rules, arith}
 use Rattle.std.proofs.lemmas.List.{take_all, with_items_is}
-use Rattle.qm_parse.specs.declared.written.WrittenTerm.{WrittenTerm}
 use Rattle.qm_parse.specs.Names.{AreOver}
 use Rattle.qm_parse.proofs.Totals.{totals_more, totals_none, known_more, factors_more, unknown_at, sum_at}
 use Rattle.qm_parse.proofs.coefficients.totals.Goals as goal

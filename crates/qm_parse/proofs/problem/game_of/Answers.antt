@@ -1,6 +1,5 @@
 use Rattle.std.proofs.Common.{sym, ◌∙◌, subst, arith}
 use Rattle.qm_model.specs.Sound.{IsSound}
-use Rattle.qm_parse.specs.Names.{AreOver, AreRowsOver}
 use Rattle.qm_parse.proofs.Making.{few_in_order, names_right, objective_wrong, problem_made, rows_wrong}
 use Rattle.qm_parse.proofs.Soundness.{problem_sound}
 use Rattle.qm_parse.proofs.problem.game_of.Goals as goal

@@ -1,21 +1,19 @@
 use Rattle.std.proofs.Common.{◌<◌, ◌^◌, ◌∙◌, ap, pos, neg_ℤ, unsigned_abs, to_z, of_z, ◌≡◌, ◌-ℤ◌}
 use Rattle.std.specs.Int.{w128}
-use Rattle.std.proofs.lemmas.Int.{to_z_pos}
 use Rattle.qm_frac.specs.Arithmetic.{ceil_of}
 use Rattle.qm_frac.proofs.SignLaws.{unwrap, zero_minus, unsigned_abs-neg}
-use Rattle.qm_frac.proofs.Rounding.{ceil_is, floor_fits}
+use Rattle.qm_frac.proofs.Rounding.{ceil_is}
 use Rattle.qm_frac.proofs.frac.Frac.ceil.Goals as goal
 
-pub returns : goal.returns
-returns c =
-    let a = c.parts-num.ensures in
-    let n = unwrap c.parts-num.result.0 (rw a.num a.terms.num_fits) ∙ a.num in
-    let m_fits : unsigned_abs (neg_ℤ c.args.self.num) < 2 ^ 127 = rw unsigned_abs-neg a.terms.num_fits in
-    let m = unwrap (neg_ℤ c.args.self.num) m_fits in
-    let d = to_z_pos w128 c.parts-num.result.1 (rw a.den a.terms.den_fits) ∙ ap pos a.den in
-    let q = rw (n, d, zero_minus c.args.self.num, m) at c.div_euclid.ensures in
-    let fits : unsigned_abs c.div_euclid.result < 2 ^ 127 = rw q (floor_fits (neg_ℤ c.args.self.num) c.args.self.den a.terms.positive m_fits) in
-    let back : unsigned_abs (neg_ℤ c.div_euclid.result) < 2 ^ 127 = rw unsigned_abs-neg fits in
-    let same : to_z w128 (of_z w128 (pos 0 -ℤ to_z w128 (of_z w128 c.div_euclid.result))) ≡ ceil_of c.args.self =
-    rw (unwrap c.div_euclid.result fits, zero_minus c.div_euclid.result, unwrap (neg_ℤ c.div_euclid.result) back) (ap neg_ℤ q) in
-    record { value = same; ceil = rw same (ceil_is c.args.self a.terms.positive) }
+pub returns-clause-ceil : goal.returns-clause-ceil
+returns-clause-ceil c =
+    let r = c.floor_of_parts.result in
+    let a = c.args.self in
+    let n = unwrap c.num.result (rw c.num.ensures.num c.num.ensures.terms.num_fits) ∙ c.num.ensures.num in
+    let negated_fits : unsigned_abs (neg_ℤ a.num) < 2 ^ 127 = rw unsigned_abs-neg c.num.ensures.terms.num_fits in
+    let d = unwrap c.den.result (rw c.den.ensures.den c.num.ensures.terms.den_fits) ∙ c.den.ensures.den in
+    let q = rw (n, d, zero_minus a.num, unwrap (neg_ℤ a.num) negated_fits) at c.floor_of_parts.ensures.value in
+    let back : unsigned_abs (neg_ℤ r) < 2 ^ 127 = rw unsigned_abs-neg c.floor_of_parts.ensures.bound in
+    let same : to_z w128 (of_z w128 (pos 0 -ℤ to_z w128 (of_z w128 r))) ≡ ceil_of a =
+    rw (unwrap r c.floor_of_parts.ensures.bound, zero_minus r, unwrap (neg_ℤ r) back) (ap neg_ℤ q) in
+    rw same (ceil_is a c.num.ensures.terms.positive)

@@ -1,4 +1,4 @@
-use Rattle.std.proofs.Common.{◌≡◌, List, ℕ, not, false, take, ap, sym, ◌∙◌, arith}
+use Rattle.std.proofs.Common.{◌≡◌, List, ℕ, not, false, ap, sym, ◌∙◌, arith}
 use Rattle.qm_parse.specs.Problems.{stands_in}
 use Rattle.qm_parse.proofs.Standing.{twice}
 use Rattle.qm_parse.proofs.names.Names.numbered.Goals as goal

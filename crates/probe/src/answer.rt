@@ -1,0 +1,105 @@
+use crate::question::{Question, over, read_question};
+use qm_frac::{Frac, Leaves, Op};
+use std::alloc::{AllocError, Global};
+use std::cmp::Ordering;
+use std::fmt;
+
+// A fraction as it is printed: `A`, or `A/B` where B isn't 1.
+#[derive(Clone, Copy)]
+struct Shown {
+    value: Frac,
+}
+
+impl fmt::Display for Shown {
+    fn fmt<W: fmt::Write>(&self, f: &mut fmt::Formatter<W>) -> fmt::Result {
+        let num = self.value.num();
+        let den = self.value.den();
+        if den == 1 {
+            write!(f, "{num}")
+        } else {
+            write!(f, "{num}/{den}")
+        }
+    }
+}
+
+/// The answer to a line, and `?` where the line asks nothing.
+pub fn answer(alloc: Global, line: &str) -> Result<String, AllocError> {
+    match read_question(line) {
+        Some(question) => answer_to(alloc, question),
+        None => nothing(alloc),
+    }
+}
+
+fn answer_to(alloc: Global, question: Question) -> Result<String, AllocError> {
+    match question {
+        Question::Of(num, den) => fraction_or_none(alloc, num, den),
+        Question::Floor(a) => number(alloc, a.floor()),
+        Question::Ceil(a) => number(alloc, a.ceil()),
+        Question::Add(a, b) => value_or_leaves(alloc, a.add(b)),
+        Question::Sub(a, b) => value_or_leaves(alloc, a.sub(b)),
+        Question::Mul(a, b) => value_or_leaves(alloc, a.mul(b)),
+        Question::Div(a, b) => divided(alloc, a, b),
+        Question::Cmp(a, b) => number(alloc, sign(a.cmp(b))),
+    }
+}
+
+fn nothing(alloc: Global) -> Result<String, AllocError> {
+    String::from_str(alloc, "?")
+}
+
+fn number(alloc: Global, n: i128) -> Result<String, AllocError> {
+    format!(in alloc; "{n}")
+}
+
+fn fraction_or_none(alloc: Global, num: i128, den: i128) -> Result<String, AllocError> {
+    if den == 0 {
+        return nothing(alloc);
+    }
+    match over(num, den) {
+        Some(value) => fraction_text(alloc, value),
+        None => String::from_str(alloc, "none"),
+    }
+}
+
+fn divided(alloc: Global, a: Frac, b: Frac) -> Result<String, AllocError> {
+    if b.num() == 0 {
+        return nothing(alloc);
+    }
+    value_or_leaves(alloc, a.div(b))
+}
+
+fn fraction_text(alloc: Global, value: Frac) -> Result<String, AllocError> {
+    let value = Shown { value };
+    format!(in alloc; "{value}")
+}
+
+fn value_or_leaves(alloc: Global, answer: Result<Frac, Leaves>) -> Result<String, AllocError> {
+    match answer {
+        Ok(value) => fraction_text(alloc, value),
+        Err(leaves) => {
+            let word = op_word(leaves.op);
+            let left = Shown { value: leaves.left };
+            let right = Shown {
+                value: leaves.right,
+            };
+            format!(in alloc; "leaves {word} {left} {right}")
+        }
+    }
+}
+
+fn op_word(op: Op) -> &'static str {
+    match op {
+        Op::Add => "add",
+        Op::Sub => "sub",
+        Op::Mul => "mul",
+        Op::Div => "div",
+    }
+}
+
+fn sign(order: Ordering) -> i128 {
+    match order {
+        Ordering::Less => -1,
+        Ordering::Equal => 0,
+        Ordering::Greater => 1,
+    }
+}
