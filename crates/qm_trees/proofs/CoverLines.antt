@@ -32,8 +32,8 @@ follows_last : (next high : ℤ) (r : Range) → Begins next r → r.high ≡ hi
 follows_last next high r begins ends =
     and_from (int_eq r.low next && int_le r.low r.high && int_le r.high high) (int_eq r.high high)
     (and_from (int_eq r.low next && int_le r.low r.high) (int_le r.high high)
-    (and_from (int_eq r.low next) (int_le r.low r.high) ((Decides-int_eq r.low next).1 begins.at) (test_of_le r.low r.high begins.some))
-    (test_of_le r.high high (omega (arith, ints))))
+      (and_from (int_eq r.low next) (int_le r.low r.high) ((Decides-int_eq r.low next).1 begins.at) (test_of_le r.low r.high begins.some))
+      (test_of_le r.high high (omega (arith, ints))))
     ((Decides-int_eq r.high high).1 ends)
 
 other_follows : (next high : ℤ) (r : Range) → follows_on next high false r ≡ true → Begins next r
@@ -54,8 +54,8 @@ follows_other : (next high : ℤ) (r : Range) → Begins next r → r.high <ℤ 
 follows_other next high r begins before =
     and_from (int_eq r.low next && int_le r.low r.high && int_le r.high high) (not (int_eq r.high high))
     (and_from (int_eq r.low next && int_le r.low r.high) (int_le r.high high)
-    (and_from (int_eq r.low next) (int_le r.low r.high) ((Decides-int_eq r.low next).1 begins.at) (test_of_le r.low r.high begins.some))
-    (test_of_le r.high high (omega (arith, ints))))
+      (and_from (int_eq r.low next) (int_le r.low r.high) ((Decides-int_eq r.low next).1 begins.at) (test_of_le r.low r.high begins.some))
+      (test_of_le r.high high (omega (arith, ints))))
     (not_equal r.high high before)
 
 -- ranges that follow on end no earlier than they begin
@@ -112,7 +112,7 @@ module _ {A : Type 0} (range_of : A → Range) (judge : A → Verdict) where
       fine_both (line rule.Cover (Ok (follows_on next high false r))) (judge part then later)
       (line_fine rule.Cover (Ok (follows_on next high false r)) (ap (λ b. Ok b) (follows_other next high r begins before)))
       (fine_both (judge part) later (All-head (λ p. IsFine (judge p)) part (other ∷ parts) fine)
-      (each_fine (r.high +ℤ pos 1) high other parts follow.2 (All-tail (λ p. IsFine (judge p)) part (other ∷ parts) fine)))
+        (each_fine (r.high +ℤ pos 1) high other parts follow.2 (All-tail (λ p. IsFine (judge p)) part (other ∷ parts) fine)))
 
   -- the count and the parts
   pub fine_cover : (covered : Range) (parts : List A) → IsFine (judge_parts range_of judge covered parts) → Cover covered (map range_of parts) × AllFine parts

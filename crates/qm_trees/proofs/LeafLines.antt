@@ -88,7 +88,7 @@ sum_exact value (t ∷ ts) s r dens some e =
     let rest = sum_exact value ts q r dens q_den addition.2 in
     record {
       same = sum_step (whole t.coef) (value t) s p q (sum_at value ts) r one (dens t) some p_den q_den (sum_at_den value ts dens)
-          (multiplied_same (whole t.coef) (value t) p product.1) (added_same s p q addition.1) rest.same;
+      (multiplied_same (whole t.coef) (value t) p product.1) (added_same s p q addition.1) rest.same;
       positive = rest.positive;
     }
 
@@ -132,9 +132,9 @@ module _ (P : Problem) (bx : List Range) (point : List Fraction) where
       let one : 0 < (whole row.right).den = omega arith in
       let test = ok_is (is_at_most s (whole row.right)) b step.2 in (
         (λ yes. at_most_congr s (whole row.right) t (whole row.right) sum.1 one sum.0 (same_refl (whole row.right))
-            (le_of_test (s.num *ℤ pos 1) (row.right *ℤ pos s.den) (test ∙ yes))),
+          (le_of_test (s.num *ℤ pos 1) (row.right *ℤ pos s.den) (test ∙ yes))),
         λ holds. sym test ∙ test_of_le (s.num *ℤ pos 1) (row.right *ℤ pos s.den)
-            (at_most_congr t (whole row.right) s (whole row.right) (sum_at_den value row.terms dens) one (same_sym s t sum.0) (same_refl (whole row.right)) holds),
+          (at_most_congr t (whole row.right) s (whole row.right) (sum_at_den value row.terms dens) one (same_sym s t sum.0) (same_refl (whole row.right)) holds),
       )
 
   rows_parts : (row : Row) (rows : List Row) → rows_hold P bx point (row ∷ rows) ≡ Ok true → (row_holds P bx point row ≡ Ok true) × (rows_hold P bx point rows ≡ Ok true)
@@ -197,7 +197,7 @@ module _ (P : Problem) (bx : List Range) (point : List Fraction) where
       let test = ok_is (is_at_most v w) b third.2 in (
         (λ yes. at_most_congr v w v (quotient_of total (whole P.scale)) v_den w_den (same_refl v) w_is (le_of_test (v.num *ℤ pos w.den) (w.num *ℤ pos v.den) (test ∙ yes))),
         λ reaches. sym test ∙ test_of_le (v.num *ℤ pos w.den) (w.num *ℤ pos v.den)
-            (at_most_congr v (quotient_of total (whole P.scale)) v w v_den (quotient_den total P.scale scale total_den) (same_refl v) (same_sym w (quotient_of total (whole P.scale)) w_is) reaches),
+          (at_most_congr v (quotient_of total (whole P.scale)) v w v_den (quotient_den total P.scale scale total_den) (same_refl v) (same_sym w (quotient_of total (whole P.scale)) w_is) reaches),
       )
 
 -- ---- bounds

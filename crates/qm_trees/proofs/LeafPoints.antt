@@ -89,8 +89,8 @@ whole_product_at_most : (d : ℕ) (k v w : ℤ) → 0 < d → (k *ℤ v) ≤ℤ 
 whole_product_at_most d k v w some h =
     at_most_congr (whole (k *ℤ v)) (whole (k *ℤ w)) (over d (k *ℤ (v *ℤ pos d))) (product_of (whole k) (whole w)) (omega arith) (omega arith)
     (same_trans (whole (k *ℤ v)) (product_of (whole k) (whole v)) (over d (k *ℤ (v *ℤ pos d))) (product_of_den (whole k) (whole v) (omega arith) (omega arith))
-    (same_sym (product_of (whole k) (whole v)) (whole (k *ℤ v)) (product_of-whole k v))
-    (same_sym (over d (k *ℤ (v *ℤ pos d))) (product_of (whole k) (whole v)) (product_over d k v)))
+      (same_sym (product_of (whole k) (whole v)) (whole (k *ℤ v)) (product_of-whole k v))
+      (same_sym (over d (k *ℤ (v *ℤ pos d))) (product_of (whole k) (whole v)) (product_over d k v)))
     (same_sym (product_of (whole k) (whole w)) (whole (k *ℤ w)) (product_of-whole k w))
     (omega (arith, ints, h))
 
@@ -99,8 +99,8 @@ whole_product_at_least d k v w some h =
     at_most_congr (whole (k *ℤ w)) (whole (k *ℤ v)) (product_of (whole k) (whole w)) (over d (k *ℤ (v *ℤ pos d))) (omega arith) (omega arith)
     (same_sym (product_of (whole k) (whole w)) (whole (k *ℤ w)) (product_of-whole k w))
     (same_trans (whole (k *ℤ v)) (product_of (whole k) (whole v)) (over d (k *ℤ (v *ℤ pos d))) (product_of_den (whole k) (whole v) (omega arith) (omega arith))
-    (same_sym (product_of (whole k) (whole v)) (whole (k *ℤ v)) (product_of-whole k v))
-    (same_sym (over d (k *ℤ (v *ℤ pos d))) (product_of (whole k) (whole v)) (product_over d k v)))
+      (same_sym (product_of (whole k) (whole v)) (whole (k *ℤ v)) (product_of-whole k v))
+      (same_sym (over d (k *ℤ (v *ℤ pos d))) (product_of (whole k) (whole v)) (product_over d k v)))
     (omega (arith, ints, h))
 
 -- ---- quotients
@@ -183,8 +183,8 @@ module _ (P : Problem) (sound : IsSound P) (prefix : List ℤ) (bx : List Range)
       let at : term_at values t ≡ t.coef *ℤ n = ap (λ v. t.coef *ℤ v) (value_continuous t.var from) in
       rw at
       (same_trans (over d (t.coef *ℤ n)) (product_of (whole t.coef) (over d n)) (product_of (whole t.coef) y) (product_of_den (whole t.coef) (over d n) (omega arith) d_pos)
-      (same_sym (product_of (whole t.coef) (over d n)) (over d (t.coef *ℤ n)) (product_of-whole-over t.coef d n))
-      (product_of-same (whole t.coef) (over d n) (whole t.coef) y (same_refl (whole t.coef)) (num_same (t.var - P.wholes) in_point)))
+        (same_sym (product_of (whole t.coef) (over d n)) (over d (t.coef *ℤ n)) (product_of-whole-over t.coef d n))
+        (product_of-same (whole t.coef) (over d n) (whole t.coef) y (same_refl (whole t.coef)) (num_same (t.var - P.wholes) in_point)))
 
   whole_at_most : (t : Term) → t.var < P.wholes → IsAtMost (over d (term_at values t)) (product_of (whole t.coef) (whole (greatest_end_by t.coef (range_at bx t.var))))
   whole_at_most t below =

@@ -130,13 +130,13 @@ module _ (x : Var) (depth : ℕ) (judge : List Range → Policy → Verdict) (Is
       let rest = judge (slice_set bx depth (single value)) policy in
       else_fine (is_universal x) rule.Text 0 (first then rest) (not_universal x right.0)
       (fine_both first rest
-      (line_fine rule.Choose (Ok (is_in (range_at bx depth) value)) (ap (λ b. Ok b) (in_of_between (range_at bx depth) value right.1)))
-      (below (slice_set bx depth (single value)) policy proper right.2 range))
+        (line_fine rule.Choose (Ok (is_in (range_at bx depth) value)) (ap (λ b. Ok b) (in_of_between (range_at bx depth) value right.1)))
+        (below (slice_set bx depth (single value)) policy proper right.2 range))
   move_fine below bx (node.Answer parts) proper right range =
       let each = λ (part : PolicyPart). judge (slice_set bx depth (range_of part)) (below_of part) in
       then_fine (is_universal x) rule.Text 0 (judge_parts range_of each (range_at bx depth) parts) (is_for_all x right.0)
       (cover_fine range_of each (range_at bx depth) parts right.1
-      (λ k d h. below (slice_set bx depth (range_of (get_or parts k d))) (below_of (get_or parts k d)) (proper k d h) (right.2 k d h) (range k d h)))
+        (λ k d h. below (slice_set bx depth (range_of (get_or parts k d))) (below_of (get_or parts k d)) (proper k d h) (right.2 k d h) (range k d h)))
 
 -- ---- policies
 

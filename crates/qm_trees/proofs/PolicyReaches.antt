@@ -47,9 +47,9 @@ le_or_lt a b = grind (arith, ints)
 follow_finds : {A : Type 0} (range_of : A → Range) (low high : ℤ) (parts : List A) (v : ℤ) → FollowOn low high (map range_of parts) → low ≤ℤ v → v ≤ℤ high → Finds range_of parts v
 follow_finds range_of low high [] v follow from to = absurd (omega (arith, ints, follow))
 follow_finds range_of low high (part ∷ parts) v follow from to = elim (le_or_lt v (range_of part).high) [
-  | inl h ↦ (0, part, omega arith, refl, (omega (arith, ints, follow.0), h))
-  | inr h ↦ finds_later range_of part parts v (follow_finds range_of ((range_of part).high +ℤ pos 1) high parts v follow.2 (omega (arith, ints)) to)
-]
+    | inl h ↦ (0, part, omega arith, refl, (omega (arith, ints, follow.0), h))
+    | inr h ↦ finds_later range_of part parts v (follow_finds range_of ((range_of part).high +ℤ pos 1) high parts v follow.2 (omega (arith, ints)) to)
+  ]
 
 pub cover_finds : {A : Type 0} (range_of : A → Range) (covered : Range) (parts : List A) (v : ℤ) → Cover covered (map range_of parts) → HasValue covered v → Finds range_of parts v
 cover_finds range_of covered [] v cover has = absurd (omega (arith, ints, cover, has.0, has.1))
@@ -91,7 +91,7 @@ next_place P x xs depth prefix bx r v place has =
     record {
       done = place.done ++ r ∷ [];
       box_is = subst (λ n. set bx n r ≡ (place.done ++ r ∷ []) ++ rest) place.count
-          (ap (λ b. set b (length place.done) r) place.box_is ∙ set-append_seam place.done (bounds_of x) rest r ∙ sym (append_assoc place.done (r ∷ []) rest));
+        (ap (λ b. set b (length place.done) r) place.box_is ∙ set-append_seam place.done (bounds_of x) rest r ∙ sym (append_assoc place.done (r ∷ []) rest));
       count = length-append place.done (r ∷ []) ∙ ap (λ n. n + 1) place.count;
       values = in_push place.done prefix r v place.values has;
       total = omega (arith, place.total);
@@ -179,11 +179,12 @@ module _ (P : Problem) (x : Var) (xs : List Var) (depth : ℕ) (IsProper : Polic
       let u = first.0 in
       let here = next_range P x xs depth prefix bx place in
       let covered : HasValue (range_at bx depth) u = subst (λ (r : Range). HasValue r u) (sym here) first.3 in
-      subst (λ vs. ReachesByMove x Reaches prefix vs (node.Answer parts)) (sym first.2) (
+      subst (λ vs. ReachesByMove x Reaches prefix vs (node.Answer parts)) (sym first.2)
+      (
         right.0,
         cover_finds range_of (range_at bx depth) parts u right.1 covered,
         λ k part h has. below (prefix ++ u ∷ []) first.1 (slice_set bx depth (range_of (get_or parts k part))) (below_of (get_or parts k part))
-            (next_place P x xs depth prefix bx (range_of (get_or parts k part)) u place has) first.4 (proper k part h) (right.2 k part h),
+          (next_place P x xs depth prefix bx (range_of (get_or parts k part)) u place has) first.4 (proper k part h) (right.2 k part h),
       )
 
 -- ---- policies

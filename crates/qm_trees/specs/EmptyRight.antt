@@ -35,7 +35,7 @@ abbrev pub IsRightSplit : Problem → Var → ℕ → (List Range → Empty → 
 IsRightSplit P x depth IsRight bx tree (node.Close combo) = IsRightClose P bx combo
 IsRightSplit P x depth IsRight bx tree (node.Split var parts) =
     ((var ≡ depth) × (x.player ≡ Universal) × Cover (range_at bx depth) (map range_of parts)
-    × All (λ part. IsRight (slice_set bx depth (range_of part)) (below_of part)) parts)
+      × All (λ part. IsRight (slice_set bx depth (range_of part)) (below_of part)) parts)
     ⊎ ((var ≡ depth → ⊥) × IsRight bx tree)
 
 -- the tree over a box, where it may split these whole variables from the depth on

@@ -93,4 +93,4 @@ value_of P false ws bx =
     add_right_sides ws zero >>= λ r. add_variables P false ws 0 bx zero >>= λ s. Ok (if is_below r s then Void else Nothing)
 value_of P true ws bx =
     add_right_sides ws zero >>= λ r. added r (whole P.constant) >>= λ q. add_variables P true ws 0 bx zero >>= λ s.
-    subtracted q s >>= λ k. divided k (whole P.scale) >>= λ w. Ok (Bound w)
+        subtracted q s >>= λ k. divided k (whole P.scale) >>= λ w. Ok (Bound w)

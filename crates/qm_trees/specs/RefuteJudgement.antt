@@ -63,7 +63,7 @@ judge_move P cuts G x later depth judge bx (node.Over parts) =
 judge_move P cuts G x later depth judge bx (node.Pick value completion below) =
     if is_universal x && (length completion == universal_count later)
     then (line rule.Pick (Ok (is_in (range_at bx depth) value && fit later (drop (depth + 1) bx) completion && meet_on_box P (picked depth later bx value completion)))
-    then judge (slice_set bx depth (single value)) below)
+      then judge (slice_set bx depth (single value)) below)
     else Broken rule.Text 0
 
 -- The refutation of a goal over a box, where these whole variables from the depth on are still to be set. The

@@ -8,9 +8,7 @@ use sqlite_items::{Boxed, Items};
 #[derive(Debug, Drop)]
 pub enum Refute {
     /// The ranges of the parts cover the range of the next variable.
-    Over {
-        parts: Items<RefutePart>,
-    },
+    Over { parts: Items<RefutePart> },
     /// The universal player sets the next variable to a value, and can go on with the completion.
     Pick {
         value: i64,
