@@ -8,3 +8,4 @@ pub mod SmallerValues
 pub mod CombinationSound
 pub mod CombinationValues
 pub mod CombinationCloses
+pub mod RowsOver

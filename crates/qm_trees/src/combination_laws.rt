@@ -1,5 +1,8 @@
-ghost use Rattle.std.specs.Prelude.{◌≡◌, ◌≤ℤ◌, ℤ, pos, Bool, true, false, List, All, Ok};
+ghost use Rattle.std.specs.Prelude.{◌≡◌, ◌↔◌, ◌<◌, ◌≤ℤ◌, ℕ, map, ℤ, pos, Bool, true, false, List, All, Ok};
 ghost use Rattle.qm_math.specs.Fraction.{Fraction, HasPositiveDen, whole, IsAtMost, IsBelow, IsSame};
+ghost use Rattle.qm_math.specs.Over.{over};
+ghost use Rattle.qm_model.specs.declared.row.Row.{Row};
+ghost use Rattle.qm_model.specs.Points.{HoldsOver};
 ghost use Rattle.qm_model.specs.declared.game.Problem.{Problem};
 ghost use Rattle.qm_model.specs.declared.range.Range.{Range};
 ghost use Rattle.qm_model.specs.Goals.{Goal, IsNoHarder, IsProper, Reaches};
@@ -33,4 +36,9 @@ pub fn combinations_are_sound()
 /// A combination that closes a goal closes each goal that is no easier.
 pub fn closing_closes_harder_goals()
     ensures { (P : Problem) (objective : Bool) (ws : List Weighted) (bx : List Range) (G H : Goal) → All (λ w. HasPositiveDen w.by) ws → pos 1 ≤ℤ P.scale → IsProper G → IsProper H → IsNoHarder G H → Closes P objective ws bx G → Closes P objective ws bx H }
+{}
+
+/// A row holds at numerators over one denominator exactly where it holds at the fractions.
+pub fn rows_hold_over_one_denominator()
+    ensures { (d : ℕ) (ns : List ℤ) (row : Row) → 0 < d → HoldsAt (map (over d) ns) row ↔ HoldsOver d ns row }
 {}
