@@ -14,8 +14,7 @@ mod rule;
 pub use combination::{Combo, ComboValue, Entry};
 pub use combination_laws::{
     closing_closes_harder_goals, closing_is_exact, combination_values_are_exact,
-    combinations_are_sound,
-    rows_hold_over_one_denominator,
+    combinations_are_sound, rows_hold_over_one_denominator,
 };
 pub use empty::{Empty, EmptyPart};
 pub use policy::{Below, Policy, PolicyPart};
