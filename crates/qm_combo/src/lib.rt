@@ -10,3 +10,6 @@ mod terms;
 pub use closing::{closes, value};
 pub use qm_game::Goal;
 pub use qm_trees::{Combo, ComboValue, Empty, EmptyPart, Entry};
+
+#[cfg(test)]
+mod tests;

@@ -5,3 +5,7 @@ pub mod PolicyLines
 pub mod LeafPoints
 pub mod PolicyReaches
 pub mod SmallerValues
+pub mod CombinationSound
+pub mod CombinationValues
+pub mod CombinationCloses
+pub mod RowsOver

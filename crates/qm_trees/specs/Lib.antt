@@ -1,6 +1,7 @@
 pub mod Entries
 pub mod Evaluation
 pub mod Closing
+pub mod BoxPoints
 pub mod Verdicts
 pub mod Ranges
 pub mod Leaves

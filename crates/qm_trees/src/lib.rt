@@ -4,6 +4,7 @@
 #![tactic(auto)]
 
 mod combination;
+mod combination_laws;
 mod empty;
 mod policy;
 mod policy_laws;
@@ -11,6 +12,10 @@ mod refutation;
 mod rule;
 
 pub use combination::{Combo, ComboValue, Entry};
+pub use combination_laws::{
+    closing_closes_harder_goals, closing_is_exact, combination_values_are_exact,
+    combinations_are_sound, rows_hold_over_one_denominator,
+};
 pub use empty::{Empty, EmptyPart};
 pub use policy::{Below, Policy, PolicyPart};
 pub use policy_laws::{
