@@ -1,0 +1,77 @@
+use Rattle.std.proofs.Common.{rules, ◌≡◌, ◌+◌, length, arith, ap, ◌∙◌, List, slice_set, subst, Ok, Err}
+use Rattle.qm_model.specs.declared.range.Range.{Range}
+use Rattle.qm_trees.specs.declared.policy.PolicyPart.{PolicyPart}
+use Rattle.qm_trees.specs.Verdicts.{answer_of}
+use Rattle.qm_trees.specs.Ranges.{judge_each}
+use Rattle.std.proofs.lemmas.Int.{to_z-of_z}
+use mir.Syntax.{w128}
+use mir.Val.{SFits}
+use Rattle.std.proofs.lemmas.List.Elements.{All-more}
+use Rattle.qm_trees.specs.Passing.{HasProperLeaves}
+use Rattle.qm_trees.specs.PolicyJudgement.{below_of, judge_policy, range_of}
+use Rattle.qm_policy.proofs.Places.{next_place, put_back}
+use Rattle.qm_policy.proofs.Steps.{answer_move, proper_move, step_is, part_leaves, part_fails, part_passes}
+use Rattle.qm_policy.proofs.walk.+test.Goals as goal
+
+pub test_from-test_below-requires : goal.test_from-test_below-requires
+test_from-test_below-requires t c =
+    let here = next_place c.args.game.now c.args.rest.now c.in-Some.var.now c.in-Some.later.now c.args.depth c.args.bx.now c.in-Some.ensures.cases.0 c.requires in
+    let more = c.in-Some.ensures.cases.0 in
+    (omega (arith, ap length more), (here.next, here.below))
+
+pub test_from-test_answer-requires : goal.test_from-test_answer-requires
+test_from-test_answer-requires t c =
+    let here = next_place c.args.game.now c.args.rest.now c.in-Some.var.now c.in-Some.later.now c.args.depth c.args.bx.now c.in-Some.ensures.cases.0 c.requires in
+    let more = c.in-Some.ensures.cases.0 in
+    (omega (arith, ap length more), (here.next, here.below))
+
+pub test_below-returns-clause-same : goal.test_below-returns-clause-same
+test_below-returns-clause-same t c =
+    put_back c.args.bx.now c.set.new.self c.test_from-answer.new.bx c.set-2.new.self c.args.depth c.args.range c.range_in-before.result
+    c.set.ensures c.test_from-answer.ensures.same c.set-2.ensures (rw c.as_slice.ensures at c.range_in-before.ensures)
+
+pub test_from-returns-in-Answer-clause-answer : goal.test_from-returns-in-Answer-clause-answer
+test_from-returns-in-Answer-clause-answer t c =
+    c.test_answer.ensures.answer
+    ∙ answer_move c.args.game.now c.args.value c.args.rest.now c.in-Some.var.now c.in-Some.later.now c.args.depth c.args.bx.now c.args.policy.now c.in-Answer.parts _
+    c.in-Some.ensures.cases.0 c.in-Answer.is c.as_slice-in-Answer.ensures
+
+pub test_from-returns-in-Answer-clause-proper : goal.test_from-returns-in-Answer-clause-proper
+test_from-returns-in-Answer-clause-proper t c =
+    λ yes. proper_move c.args.rest.now c.in-Some.var.now c.in-Some.later.now c.args.policy.now c.in-Answer.parts _
+    c.in-Some.ensures.cases.0 c.in-Answer.is c.as_slice-in-Answer.ensures (c.test_answer.ensures.proper yes)
+
+pub test_each-returns-in_err-test_part-clause-answer : goal.test_each-returns-in_err-test_part-clause-answer
+test_each-returns-in_err-test_part-clause-answer t c =
+    let part = c.index-parts-at.result in
+    let judge = λ (b : List Range) (p : PolicyPart). judge_policy c.args.game.now c.args.value c.args.later.now (c.args.depth + 1) (slice_set b c.args.depth (range_of p)) (below_of p) in
+    let step = step_is range_of (judge c.args.bx.now) c.args.parts.now c.loop-at.at part _ c.args.covered.high _ _ _ _ c.in_err-test_part.ensures.answer c.follows-follows.ensures c.is_last.ensures
+    (ap (λ b. answer_of (judge b part)) c.loop-at.invariant.same) in
+    let known : Err c.in_err-test_part.field-0.0 ≡ answer_of (judge_each range_of (judge c.args.bx.now) c.args.covered.low c.args.covered.high c.args.parts.now) =
+    part_leaves range_of (judge c.args.bx.now) c.args.parts.now c.loop-at.at part _ c.args.covered.high _ c.loop-at-test.true c.index-parts-at.is c.loop-at.invariant.rest _ step in
+    search (rules, known)
+
+pub test_each-returns-then-not-branch-clause-answer : goal.test_each-returns-then-not-branch-clause-answer
+test_each-returns-then-not-branch-clause-answer t c =
+    let part = c.index-parts-at.result in
+    let judge = λ (b : List Range) (p : PolicyPart). judge_policy c.args.game.now c.args.value c.args.later.now (c.args.depth + 1) (slice_set b c.args.depth (range_of p)) (below_of p) in
+    let answer = rw c.if-not-branch.true at c.in_ok-test_part.ensures.answer in
+    let step = step_is range_of (judge c.args.bx.now) c.args.parts.now c.loop-at.at part _ c.args.covered.high _ _ _ _ answer c.follows-follows.ensures c.is_last.ensures
+    (ap (λ b. answer_of (judge b part)) c.loop-at.invariant.same) in
+    part_fails range_of (judge c.args.bx.now) c.args.parts.now c.loop-at.at part _ c.args.covered.high _ c.loop-at-test.true c.index-parts-at.is c.loop-at.invariant.rest step
+
+pub test_each-loop-at-preserved : goal.test_each-loop-at-preserved
+test_each-loop-at-preserved t c =
+    let part = c.index-parts-at.result in
+    let judge = λ (b : List Range) (p : PolicyPart). judge_policy c.args.game.now c.args.value c.args.later.now (c.args.depth + 1) (slice_set b c.args.depth (range_of p)) (below_of p) in
+    let answer = rw c.if-not-branch.false at c.in_ok-test_part.ensures.answer in
+    let step = step_is range_of (judge c.args.bx.now) c.args.parts.now c.loop-at.at part _ c.args.covered.high _ _ _ _ answer c.follows-follows.ensures c.is_last.ensures
+    (ap (λ b. answer_of (judge b part)) c.loop-at.invariant.same) in
+    let rest = part_passes range_of (judge c.args.bx.now) c.args.parts.now c.loop-at.at part _ c.args.covered.high _ c.loop-at-test.true c.index-parts-at.is c.loop-at.invariant.rest step in
+    let fits : SFits w128 c.after-next.result = search rules in
+    rw (to_z-of_z w128 c.after-next.result fits, c.after-next.ensures) (record {
+      same = c.test_part.ensures.same ∙ c.loop-at.invariant.same;
+      proper = All-more (λ p. HasProperLeaves c.args.later.now (below_of p)) c.args.parts.now c.loop-at.at part c.loop-at-test.true c.loop-at.invariant.proper
+          (subst (λ p. HasProperLeaves c.args.later.now (below_of p)) c.index-parts-at.is (c.in_ok-test_part.ensures.proper (ap (λ b. Ok b) c.if-not-branch.false)));
+      rest = rest;
+    })
