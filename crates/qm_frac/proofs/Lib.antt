@@ -10,3 +10,4 @@ pub mod Values
 pub mod AnswerLaws
 pub mod CheckedLaws
 pub mod Halving
+pub mod WholeSteps

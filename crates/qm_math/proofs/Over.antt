@@ -1,10 +1,10 @@
 -- Fractions over one denominator are added, scaled and compared by their numerators.
-use Rattle.std.proofs.Common.{refl, ℕ, ◌*◌, ◌<◌, ◌↔◌, arith, mul-pos, List, [], ◌∷◌, map, All, ℤ, pos, ◌+ℤ◌, ◌*ℤ◌, ◌≤ℤ◌, ◌<ℤ◌}
+use Rattle.std.proofs.Common.{refl, ℕ, zero, suc, ◌*◌, ◌<◌, ◌↔◌, arith, mul-pos, List, [], ◌∷◌, map, All, ℤ, pos, negsuc, ◌+ℤ◌, ◌*ℤ◌, ◌≤ℤ◌, ◌<ℤ◌, unsigned_abs}
 use Rattle.std.specs.List.{AllZip}
 use Rattle.std.proofs.lemmas.List.Elements.{All-head, All-tail}
 use Rattle.std.proofs.lemmas.Int.{ints}
 use Rattle.qm_math.specs.Fraction.{Fraction, whole, IsSame, IsAtMost, IsBelow}
-use Rattle.qm_math.specs.Arithmetic.{sum_of, product_of}
+use Rattle.qm_math.specs.Arithmetic.{sum_of, product_of, inverse_of, quotient_of}
 use Rattle.qm_math.specs.Sums.{sum_of_each}
 use Rattle.qm_math.specs.Totals.{total_of}
 use Rattle.qm_math.specs.Combinations.{value_at}
@@ -20,6 +20,14 @@ sum_of-over d m n = ring (m ∷ n ∷ pos d ∷ []) ((x0 ⊗ x2 ⊕ x1 ⊗ x2) �
 pub product_of-whole-over : (k : ℤ) (d : ℕ) (n : ℤ) → IsSame (product_of (whole k) (over d n)) (over d (k *ℤ n))
 unfolding product_of
 product_of-whole-over k d n = ring (k ∷ n ∷ pos d ∷ []) (x0 ⊗ x1 ⊗ x2) (x0 ⊗ x1 ⊗ (number (pos 1) ⊗ x2)) refl
+
+-- divided by a positive whole number
+pub quotient_of-over : (d : ℕ) (n k : ℤ) → pos 1 ≤ℤ k → IsSame (quotient_of (over d n) (whole k)) (over (unsigned_abs k * d) n)
+unfolding product_of inverse_of
+quotient_of-over d n (pos zero) h = absurd (omega (arith, ints))
+quotient_of-over d n (pos (suc m)) h =
+    ring (n ∷ pos (suc m) ∷ pos d ∷ []) ((x0 ⊗ (number (pos 1) ⊗ number (pos 1))) ⊗ (x1 ⊗ x2)) (x0 ⊗ (x2 ⊗ x1)) refl
+quotient_of-over d n (negsuc m) h = absurd (omega (arith, ints))
 
 pub over-at_most : (d : ℕ) (m n : ℤ) → 0 < d → IsAtMost (over d m) (over d n) ↔ (m ≤ℤ n)
 over-at_most d m n h = (λ k. cancel_le m n d h k, λ k. scaled_le m n d k)

@@ -1,12 +1,13 @@
 -- A form over all variables is the sum over its terms.
-use Rattle.std.proofs.Common.{◌≡◌, ◌≢◌, ℕ, suc, ◌+◌, ◌-◌, ◌<◌, ◌≤◌, List, [], ◌∷◌, length, get_or, arith, refl, sym, ◌∙◌, inl, inr}
+use Rattle.std.proofs.Common.{◌≡◌, ◌≢◌, ℕ, suc, ◌+◌, ◌-◌, ◌<◌, ◌≤◌, List, [], ◌∷◌, length, get_or, arith, refl, sym, ap, ◌∙◌, inl, inr}
 use Rattle.std.proofs.lemmas.Int.{ints}
 use Rattle.std.proofs.Math.Nat.{eq-or-lt_of_le}
 use Rattle.std.proofs.lemmas.Bool.Decides.{nat_tests}
 use Rattle.std.proofs.lemmas.List.Elements.{All-head, All-tail}
 use Rattle.std.specs.Prelude.{ℤ, pos, ◌+ℤ◌}
+use Rattle.qm_math.specs.Sums.{sum_of_each}
 use Rattle.qm_model.specs.declared.row.Term.{Term}
-use Rattle.qm_model.specs.Linear.{IsOrderedFrom, HasVarsBelow, coefficient, sum_over}
+use Rattle.qm_model.specs.Linear.{IsOrdered, IsOrderedFrom, HasVarsBelow, coefficient, sum_over}
 
 -- a term of another variable gives nothing
 pub coefficient-other : (t : Term) (ts : List Term) (var : ℕ) → t.var ≢ var → coefficient (t ∷ ts) var ≡ coefficient ts var
@@ -76,3 +77,15 @@ module _ {A : Type 0} (f : ℤ → A → ℤ) (d : A) where
             sum_over-sum_of_terms none (t ∷ ts) (suc first) parts order' later ∙ sum_of_terms_shift a (t ∷ ts) first parts order' in
             rw (here, none a, rest) (omega (arith, ints))
       ]
+
+-- a sum over the terms, each with its variable's part
+pub sum_of_terms-each : {A : Type 0} (f : ℤ → A → ℤ) (d : A) (ts : List Term) (parts : List A)
+    → sum_of_terms f d ts 0 parts ≡ sum_of_each (λ t. f t.coef (get_or parts t.var d)) ts
+sum_of_terms-each f d [] parts = refl
+sum_of_terms-each f d (t ∷ ts) parts =
+    let same : t.var - 0 ≡ t.var = omega arith in
+    ap (λ k. f t.coef (get_or parts k d) +ℤ sum_of_terms f d ts 0 parts) same ∙ ap (λ z. f t.coef (get_or parts t.var d) +ℤ z) (sum_of_terms-each f d ts parts)
+
+pub sum_over-each : {A : Type 0} (f : ℤ → A → ℤ) (d : A) → ((a : A) → f (pos 0) a ≡ pos 0) → (ts : List Term) (parts : List A) → IsOrdered ts → HasVarsBelow (length parts) ts
+    → sum_over f ts 0 parts ≡ sum_of_each (λ t. f t.coef (get_or parts t.var d)) ts
+sum_over-each f d none ts parts order below = sum_over-sum_of_terms f d none ts 0 parts order (λ k u h. omega (arith, below k u h)) ∙ sum_of_terms-each f d ts parts

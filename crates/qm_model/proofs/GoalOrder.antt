@@ -2,8 +2,10 @@
 use Rattle.std.proofs.Common.{ℕ, ◌*◌, ◌<◌, List, [], ◌∷◌, ◌++◌, arith, unsigned_abs, ℤ, pos, ◌≤ℤ◌, length, drop}
 use Rattle.std.proofs.Math.Nat.{mul-le-mul_left}
 use Rattle.std.proofs.lemmas.Int.{ints}
-use Rattle.qm_math.specs.Fraction.{Fraction}
+use Rattle.qm_math.specs.Fraction.{Fraction, IsSame}
 use Rattle.qm_math.proofs.Compare.{at_most_trans, below_at_most, at_most_below, below_at_most_weak}
+use Rattle.qm_math.proofs.FractionLaws.{same_refl}
+use Rattle.qm_math.proofs.FractionOrder.{at_most_congr, below_congr}
 use Rattle.qm_model.specs.declared.variable.Player.{Player}
 use Rattle.qm_model.specs.declared.variable.Player.TheVariants.{Exists, All as Universal}
 use Rattle.qm_model.specs.declared.variable.Var.{Var}
@@ -23,6 +25,12 @@ reaches_easier q (AtLeast s) (Above t) more proper proper' order h = at_most_tra
 reaches_easier q (Above s) Any more proper proper' order h = absurd order
 reaches_easier q (Above s) (AtLeast t) more proper proper' order h = below_at_most s t q more order h
 reaches_easier q (Above s) (Above t) more proper proper' order h = at_most_below s t q proper order h
+
+-- the same number reaches the same goals, however it is written
+pub reaches-same : (p q : Fraction) (G : Goal) → 0 < p.den → 0 < q.den → IsProper G → IsSame p q → Reaches p G → Reaches q G
+reaches-same p q Any p_den q_den proper same h = tt
+reaches-same p q (AtLeast t) p_den q_den proper same h = at_most_congr t p t q proper p_den (same_refl t) same h
+reaches-same p q (Above t) p_den q_den proper same h = below_congr t p t q proper p_den proper q_den (same_refl t) same h
 
 -- the move of either player, each fact led to another
 pub match_player : (who : Player) (E E' A A' : Type 0) → (E → E') → (A → A') → MatchPlayer who E A → MatchPlayer who E' A'

@@ -36,14 +36,14 @@ test_of_within (x ∷ xs) (u ∷ us) h =
     (test_of_within xs us h.1)
 
 -- values of all variables are values of the first ones and of the others
-parts_within : (xs : List Var) (us rest : List ℤ) → AreWithin xs (us ++ rest) → BeginWithin xs us × AreWithin (drop (length us) xs) rest
+pub parts_within : (xs : List Var) (us rest : List ℤ) → AreWithin xs (us ++ rest) → BeginWithin xs us × AreWithin (drop (length us) xs) rest
 parts_within xs [] rest h = (tt, h)
 parts_within [] (u ∷ us) rest h = absurd h
 parts_within (x ∷ xs) (u ∷ us) rest h =
     let later = parts_within xs us rest h.1 in
     ((h.0, later.0), later.1)
 
-both_within : (xs : List Var) (us rest : List ℤ) → BeginWithin xs us → AreWithin (drop (length us) xs) rest → AreWithin xs (us ++ rest)
+pub both_within : (xs : List Var) (us rest : List ℤ) → BeginWithin xs us → AreWithin (drop (length us) xs) rest → AreWithin xs (us ++ rest)
 both_within xs [] rest h k = k
 both_within [] (u ∷ us) rest h k = absurd h
 both_within (x ∷ xs) (u ∷ us) rest h k = (h.0, both_within xs us rest h.1 k)

@@ -1,7 +1,12 @@
 pub mod Forms
 pub mod TermSums
 pub mod Sizes
+pub mod BoxForms
+pub mod VariableSizes
 pub mod BoxLaws
 pub mod GoalOrder
 pub mod Legality
 pub mod OneEnding
+pub mod UncertaintyRows
+pub mod Players
+pub mod LegalMoves

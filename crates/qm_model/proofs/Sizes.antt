@@ -34,7 +34,7 @@ terms_size_le near far (t ∷ ts) le =
     )
 
 -- each variable reaches at least 1
-one_le_reach : (xs : List Var) (var : ℕ) → 1 ≤ reach_in_vars xs var
+pub one_le_reach : (xs : List Var) (var : ℕ) → 1 ≤ reach_in_vars xs var
 one_le_reach [] var = omega arith
 one_le_reach (x ∷ xs) zero = omega arith
 one_le_reach (x ∷ xs) (suc var) = one_le_reach xs var

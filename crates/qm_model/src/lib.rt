@@ -11,7 +11,10 @@ mod row_id;
 mod variable;
 
 pub use game::{Game, Problem, Sense};
-pub use laws::{a_problem_has_one_ending, an_easier_goal_is_won, legal_means_some_play_agrees};
+pub use laws::{
+    a_legal_prefix_goes_on, a_problem_has_one_ending, a_winning_prefix_is_completed,
+    an_easier_goal_is_won, legal_means_some_play_agrees, legal_prefixes_meet_uncertainty_rows,
+};
 pub use range::Range;
 pub use row::{Row, Term, Terms};
 pub use row_id::RowId;
