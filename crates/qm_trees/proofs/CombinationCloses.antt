@@ -1,12 +1,12 @@
 -- The test of a combination closes a goal exactly where the combination closes it and no operation leaves.
-use Rattle.std.proofs.Common.{◌≡◌, refl, sym, ap, ◌∙◌, ℕ, suc, ◌<◌, List, [], ◌∷◌, length, get_or, All, arith, ℤ, pos, ◌≤ℤ◌, ◌<ℤ◌, subst, Bool, true, false, Ok, Err, inl, inr, ◌⊎◌}
-use Rattle.std.specs.Prelude.{Any as Some, if◌then◌else◌, int_lt, int_le}
+use Rattle.std.proofs.Common.{◌≡◌, refl, sym, ◌<◌, List, All, arith, pos, ◌≤ℤ◌, subst, Bool, true, false, Ok, inl, inr}
+use Rattle.std.specs.Prelude.{Any as Some, ◌↔◌, IsOk, if◌then◌else◌}
 use Rattle.std.specs.List.{list_any}
 use Rattle.std.proofs.lemmas.Int.{ints}
 use Rattle.std.proofs.lemmas.List.Folds.{Any-from_list_any, list_any-from_Any}
-use Rattle.qm_math.specs.Fraction.{Fraction, whole, IsSame, IsAtMost, IsBelow, is_below, is_at_most}
+use Rattle.qm_math.specs.Fraction.{Fraction, IsAtMost, IsBelow, is_below, is_at_most}
 use Rattle.qm_math.proofs.Compare.{at_most_trans, below_at_most, at_most_below, below_at_most_weak}
-use Rattle.qm_math.proofs.FractionLaws.{same_refl, same_sym}
+use Rattle.qm_math.proofs.FractionLaws.{same_refl}
 use Rattle.qm_math.proofs.FractionOrder.{at_most_congr, below_congr, not_at_most_below}
 use Rattle.qm_frac.specs.Checked.{Checked, and_then}
 use Rattle.qm_frac.proofs.CheckedLaws.{and_then-ok}
@@ -21,7 +21,7 @@ use Rattle.qm_trees.specs.Evaluation.{right_side, least_combined, bound_of, valu
 use Rattle.qm_trees.specs.Closing.{Excludes, Closes, closes_goal, is_empty_range, closing}
 use Rattle.qm_trees.proofs.CombinationSound.{bound_of_den}
 use Rattle.qm_trees.proofs.CombinationValues.{IsExact, Says, Bounds, says, bounds, below_true, below_false}
-use Rattle.qm_trees.proofs.Lines.{lt_of_test, test_of_lt}
+use Rattle.qm_trees.proofs.Lines.{lt_of_test, test_of_lt, bind_ok}
 
 most_true : (a b : Fraction) → is_at_most a b ≡ true → IsAtMost a b
 most_true a b e = grind (arith, ints)
@@ -29,7 +29,7 @@ most_true a b e = grind (arith, ints)
 most_false : (a b : Fraction) → is_at_most a b ≡ false → IsBelow b a
 most_false a b e = grind (arith, ints)
 
-ok_bool : (s t : Bool) → (let r : Checked Bool = Ok s in r) ≡ Ok t → s ≡ t
+pub ok_bool : (s t : Bool) → (let r : Checked Bool = Ok s in r) ≡ Ok t → s ≡ t
 ok_bool s t h = cc
 
 -- the fact holds where the answer is yes, and fails where it is no
@@ -72,7 +72,7 @@ empty_from bx p = list_any-from_Any is_empty_range bx (p.0, p.1, p.2, p.3, test_
 
 -- ---- the test
 
-not_both : (A : Type 0) (b : Bool) → b ≡ true → b ≡ false → A
+pub not_both : (A : Type 0) (b : Bool) → b ≡ true → b ≡ false → A
 not_both A b e f = absurd (cc)
 
 answered : (P : Problem) (objective : Bool) (ws : List Weighted) (bx : List Range) (G : Goal) → All (λ (w : Weighted). 0 < w.by.den) ws → pos 1 ≤ℤ P.scale → IsProper G
@@ -91,18 +91,26 @@ answered P objective ws bx G dens scale proper false e b h =
         neither h (inl empty) = not_both ⊥ (list_any is_empty_range bx) (empty_from bx empty) e
         neither h (inr excludes) = h excludes
 
-pub closing_answer : (P : Problem) (objective : Bool) (ws : List Weighted) (bx : List Range) (G : Goal) (b : Bool) → All (λ (w : Weighted). 0 < w.by.den) ws → pos 1 ≤ℤ P.scale → IsProper G
+closing_answer : (P : Problem) (objective : Bool) (ws : List Weighted) (bx : List Range) (G : Goal) (b : Bool) → All (λ (w : Weighted). 0 < w.by.den) ws → pos 1 ≤ℤ P.scale → IsProper G
     → closing P objective ws bx G ≡ Ok b → IsAnswer (Closes P objective ws bx G) b
 unfolding closing
 closing_answer P objective ws bx G b dens scale proper h = answered P objective ws bx G dens scale proper (list_any is_empty_range bx) refl b h
 
-pub closing_true : (P : Problem) (objective : Bool) (ws : List Weighted) (bx : List Range) (G : Goal) → All (λ (w : Weighted). 0 < w.by.den) ws → pos 1 ≤ℤ P.scale → IsProper G
-    → closing P objective ws bx G ≡ Ok true → Closes P objective ws bx G
-closing_true P objective ws bx G dens scale proper h = closing_answer P objective ws bx G true dens scale proper h
+-- an answer is yes exactly where the fact holds and no operation leaves
+pub answer_exact : (A : Type 0) (x : Checked Bool) → ((b : Bool) → x ≡ Ok b → IsAnswer A b) → (x ≡ Ok true) ↔ (A × IsOk x)
+answer_exact A x answers = (
+  λ e. (answers true e, subst IsOk (sym e) refl),
+  λ both. let p = bind_ok x both.1 in yes p.0 p.1 both.0,
+)
+  where
+    yes : (b : Bool) → x ≡ Ok b → A → x ≡ Ok true
+    yes true e h = e
+    yes false e h = absurd (answers false e h)
 
-pub closing_false : (P : Problem) (objective : Bool) (ws : List Weighted) (bx : List Range) (G : Goal) → All (λ (w : Weighted). 0 < w.by.den) ws → pos 1 ≤ℤ P.scale → IsProper G
-    → closing P objective ws bx G ≡ Ok false → Closes P objective ws bx G → ⊥
-closing_false P objective ws bx G dens scale proper h = closing_answer P objective ws bx G false dens scale proper h
+pub closing_exact : (P : Problem) (objective : Bool) (ws : List Weighted) (bx : List Range) (G : Goal) → All (λ (w : Weighted). 0 < w.by.den) ws → pos 1 ≤ℤ P.scale → IsProper G
+    → (closing P objective ws bx G ≡ Ok true) ↔ (Closes P objective ws bx G × IsOk (closing P objective ws bx G))
+closing_exact P objective ws bx G dens scale proper =
+    answer_exact (Closes P objective ws bx G) (closing P objective ws bx G) (λ b e. closing_answer P objective ws bx G b dens scale proper e)
 
 -- ---- harder goals
 

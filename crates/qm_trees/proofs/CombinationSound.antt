@@ -1,20 +1,19 @@
 -- A combination with multipliers that are not negative says true things of each point of the box where its rows hold.
-use Rattle.std.proofs.Common.{◌≡◌, refl, sym, ap, ℕ, zero, suc, length, get_or, ◌<◌, List, [], ◌∷◌, All, arith, ℤ, pos, negsuc, ◌*ℤ◌, ◌≤ℤ◌, ◌<ℤ◌, subst, ◌≢◌, Bool, true, false, inl, inr}
+use Rattle.std.proofs.Common.{◌≡◌, refl, sym, ap, ℕ, zero, suc, length, get_or, ◌<◌, List, [], ◌∷◌, All, arith, ℤ, pos, negsuc, ◌≤ℤ◌, subst, ◌≢◌, Bool, true, false, inl, inr}
 use Rattle.std.specs.Prelude.{Any as Some}
 use Rattle.std.proofs.lemmas.List.Elements.{All-head, All-tail}
 use Rattle.std.proofs.lemmas.Int.{ints}
-use Rattle.qm_math.specs.Fraction.{Fraction, whole, IsSame, IsAtMost, IsBelow}
-use Rattle.qm_math.specs.Arithmetic.{sum_of, negated, difference_of, product_of, inverse_of, quotient_of}
+use Rattle.qm_math.specs.Fraction.{Fraction, whole, IsSame, IsAtMost}
+use Rattle.qm_math.specs.Arithmetic.{sum_of, difference_of, product_of, inverse_of, quotient_of}
 use Rattle.qm_math.specs.Totals.{total_of}
 use Rattle.qm_math.specs.Ends.{IsWithin, by_sign, least_multiple}
 use Rattle.qm_math.proofs.Polynomials.{number, ◌⊕◌, ◌⊗◌, minus}
 use Rattle.qm_math.proofs.Ring.{x0, x1, x2, x3, x4, x5, x6}
 use Rattle.qm_math.proofs.FractionRing.{den_of, same_from}
 use Rattle.qm_math.proofs.Compare.{at_most_trans, below_at_most}
-use Rattle.qm_math.proofs.FractionLaws.{same_refl, same_sym, sum_of-same, whole_den, sum_of_den, difference_of_den, product_of_den, inverse_of_den, quotient_of_den, product_of_comm}
+use Rattle.qm_math.proofs.FractionLaws.{same_sym, whole_den, sum_of_den, difference_of_den, product_of_den, inverse_of_den, quotient_of_den, product_of_comm}
 use Rattle.qm_math.proofs.FractionOrder.{at_most_refl, at_most-same, at_most_congr, not_at_most_below, sum_of-at_most, difference_of-at_most, product_of-at_most, num_nonneg}
 use Rattle.qm_math.proofs.FractionLinear.{at_most_given}
-use Rattle.qm_math.proofs.Totals.{total_of_den}
 use Rattle.qm_math.proofs.Ends.{least_multiple-at_most}
 use Rattle.qm_model.specs.declared.range.Range.{Range}
 use Rattle.qm_model.specs.declared.row.Row.{Row}

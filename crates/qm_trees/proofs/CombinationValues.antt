@@ -1,32 +1,29 @@
 -- A combination's value over a box is the exact one, where no operation leaves.
-use Rattle.std.proofs.Common.{◌≡◌, refl, sym, ap, ℕ, suc, ◌<◌, List, [], ◌∷◌, All, arith, ℤ, pos, negsuc, ◌*ℤ◌, ◌≤ℤ◌, ◌<ℤ◌, unsigned_abs, subst, Bool, true, false, Ok, Err, inl, inr, ◌⊎◌}
-use Rattle.std.specs.Prelude.{Any as Some, if◌then◌else◌}
+use Rattle.std.proofs.Common.{◌≡◌, refl, sym, ℕ, suc, ◌<◌, List, [], ◌∷◌, All, arith, ℤ, pos, ◌≤ℤ◌, unsigned_abs, subst, Bool, true, false, Ok}
+use Rattle.std.specs.Prelude.{if◌then◌else◌}
 use Rattle.std.specs.Ordering.{int_eq}
 use Rattle.std.proofs.lemmas.List.Elements.{All-head, All-tail}
 use Rattle.std.proofs.lemmas.Int.{ints}
-use Rattle.qm_math.specs.Fraction.{Fraction, whole, IsSame, IsAtMost, IsBelow, is_below, is_at_most}
-use Rattle.qm_math.specs.Arithmetic.{sum_of, negated, difference_of, product_of, inverse_of, quotient_of}
+use Rattle.qm_math.specs.Fraction.{Fraction, whole, IsSame, IsAtMost, IsBelow, is_below}
+use Rattle.qm_math.specs.Arithmetic.{sum_of, negated, difference_of, product_of, quotient_of}
 use Rattle.qm_math.proofs.Polynomials.{number, ◌⊕◌, ◌⊗◌, minus}
-use Rattle.qm_math.proofs.Ring.{x0, x1, x2, x3, x4, x5}
+use Rattle.qm_math.proofs.Ring.{x0, x1, x2}
 use Rattle.qm_math.proofs.FractionRing.{num_of, den_of, same_from, same_by_ring}
-use Rattle.qm_math.proofs.FractionLaws.{same_refl, same_sym, same_trans, sum_of-same, difference_of-same, quotient_of-same, product_of-same, whole_den, sum_of_den, difference_of_den, product_of_den, sum_of_assoc, sum_of_comm, zero-sum_of, sum_of-zero}
+use Rattle.qm_math.proofs.FractionLaws.{same_refl, same_sym, same_trans, sum_of-same, difference_of-same, quotient_of-same, whole_den, sum_of_den, difference_of_den, product_of_den, sum_of_comm, zero-sum_of, sum_of-zero}
 use Rattle.qm_math.proofs.FractionOrder.{below_congr, at_most_congr}
 use Rattle.qm_math.proofs.Ends.{least_multiple-same}
 use Rattle.qm_math.specs.Ends.{least_multiple}
 use Rattle.qm_frac.specs.Checked.{Checked, and_then, added, subtracted, multiplied, divided}
-use Rattle.qm_frac.specs.Lowest.{IsFrac}
-use Rattle.qm_frac.specs.declared.leaves.Leaves.{Leaves}
 use Rattle.qm_frac.proofs.MultipliedOut.{inverse-inverse_of}
 use Rattle.qm_frac.proofs.CheckedLaws.{and_then-ok, added-value, subtracted-value, multiplied-value, divided-value, IsFrac-added, IsFrac-subtracted, IsFrac-multiplied, IsFrac-divided}
 use Rattle.qm_model.specs.declared.range.Range.{Range}
-use Rattle.qm_model.specs.declared.row.Row.{Row}
 use Rattle.qm_model.specs.declared.game.Problem.{Problem}
 use Rattle.qm_model.specs.Linear.{coefficient}
 use Rattle.qm_trees.specs.declared.combination.ComboValue.{ComboValue}
 use Rattle.qm_trees.specs.declared.combination.ComboValue.TheVariants.{Nothing, Void, Bound}
 use Rattle.qm_trees.specs.Entries.{Weighted}
 use Rattle.qm_trees.specs.Evaluation.{zero, least_end_by, if_objective, right_side, combined_coefficient, least_form, least_combined, bound_of, add_right_sides, add_coefficients, less_objective, add_least, add_variables, value_of}
-use Rattle.qm_trees.proofs.CombinationSound.{combined_row_at, combined_right, combined_row_at_den, combined_right_den, if_objective_den, combined_coefficient_den, least_form_den, least_combined_den, right_side_den, bound_of_den, whole_quotient_den, least_end_multiple}
+use Rattle.qm_trees.proofs.CombinationSound.{combined_row_at, combined_right, combined_row_at_den, combined_right_den, if_objective_den, combined_coefficient_den, least_form_den, least_combined_den, right_side_den, whole_quotient_den, least_end_multiple}
 
 -- the value is the exact one, over a positive denominator
 pub record IsExact (r exact : Fraction) : Type 0 where

@@ -1,5 +1,5 @@
 -- The lines of parts are right exactly where the ranges cover, and what stands below each is fine.
-use Rattle.std.proofs.Common.{◌≡◌, ℕ, suc, Bool, true, false, not, List, [], ◌∷◌, length, map, All, refl, sym, ap, ◌∙◌, ℤ, pos, ◌+ℤ◌, ◌≤ℤ◌, ◌<ℤ◌, arith, Ok}
+use Rattle.std.proofs.Common.{◌≡◌, ℕ, suc, Bool, true, false, not, List, [], ◌∷◌, length, map, All, refl, ap, ℤ, pos, ◌+ℤ◌, ◌≤ℤ◌, ◌<ℤ◌, arith, Ok}
 use Rattle.std.specs.Prelude.{◌&&◌, ◌==◌, int_le, int_lt}
 use Rattle.std.specs.Ordering.{int_eq}
 use Rattle.std.proofs.lemmas.Int.{ints}
@@ -12,7 +12,7 @@ use Rattle.qm_trees.specs.declared.rule.Rule.TheVariants as rule
 use Rattle.qm_trees.specs.Verdicts.{Verdict, Fine, line, ◌then◌}
 use Rattle.qm_trees.specs.Ranges.{same, counts_right, follows_on, judge_each, judge_parts}
 use Rattle.qm_trees.specs.Passing.{IsFine}
-use Rattle.qm_trees.proofs.Lines.{le_of_test, test_of_le, lt_of_test, test_of_lt, false_of_le, true_of_not, fine_parts, fine_both, fine_line, line_fine, ok_is}
+use Rattle.qm_trees.proofs.Lines.{le_of_test, test_of_le, lt_of_test, test_of_lt, false_of_le, fine_parts, fine_both, fine_line, line_fine, ok_is}
 
 -- a range that begins at `next` and has a value
 pub record Begins (next : ℤ) (r : Range) : Type 0 where

@@ -1,17 +1,16 @@
 -- A leaf passes exactly where it is right and no operation leaves: the operations have the exact values.
-use Rattle.std.proofs.Common.{◌≡◌, ℕ, zero, suc, ◌+◌, ◌-◌, ◌*◌, ◌<◌, Bool, true, false, List, [], ◌∷◌, length, get_or, All, refl, sym, ap, subst, ◌∙◌, ℤ, pos, negsuc, ◌+ℤ◌, ◌*ℤ◌, ◌≤ℤ◌, arith, Ok, Err}
-use Rattle.std.specs.Prelude.{◌&&◌, ◌↔◌, int_le, if◌then◌else◌, IsOk, slice_index_or, nat_lt, unsigned_abs}
+use Rattle.std.proofs.Common.{◌≡◌, ℕ, zero, suc, ◌-◌, ◌<◌, Bool, true, false, List, [], ◌∷◌, length, get_or, All, refl, sym, ap, subst, ◌∙◌, ℤ, pos, negsuc, ◌*ℤ◌, ◌≤ℤ◌, arith, Ok}
+use Rattle.std.specs.Prelude.{◌&&◌, ◌↔◌, if◌then◌else◌, IsOk, slice_index_or, nat_lt}
 use Rattle.std.proofs.lemmas.Int.{ints}
 use Rattle.std.proofs.lemmas.Bool.{and_from, and_parts}
+use Rattle.std.proofs.lemmas.Bool.Decides.{Decides-ltb}
 use Rattle.std.proofs.lemmas.List.Elements.{All-cons, All-nil, All-head, All-tail}
 use Rattle.qm_math.specs.Fraction.{Fraction, HasPositiveDen, whole, IsAtMost, IsSame, is_at_most}
 use Rattle.qm_math.specs.Arithmetic.{sum_of, product_of, quotient_of, inverse_of}
-use Rattle.qm_math.specs.Totals.{total_of}
 use Rattle.qm_math.proofs.FractionLaws.{same_refl, same_sym, same_trans, sum_of-same, sum_of_assoc, sum_of-zero, zero-sum_of, sum_of_den, product_of_den, product_of-same, inverse_of_den}
 use Rattle.qm_math.proofs.FractionOrder.{at_most_congr}
 use Rattle.qm_math.proofs.Totals.{total_of_den}
 use Rattle.qm_frac.specs.Checked.{Checked, and_then, added, multiplied, divided}
-use Rattle.qm_frac.specs.Lowest.{IsFrac}
 use Rattle.qm_frac.proofs.CheckedLaws.{added-value, multiplied-value, divided-value, IsFrac-added, IsFrac-multiplied, IsFrac-divided}
 use Rattle.qm_model.specs.declared.row.Row.{Row}
 use Rattle.qm_model.specs.declared.row.Term.{Term}
@@ -207,24 +206,37 @@ bounds_of_test [] [] e = tt
 bounds_of_test [] (y ∷ ys) e = cc
 bounds_of_test (x ∷ xs) [] e = cc
 bounds_of_test (x ∷ xs) (y ∷ ys) e =
-    let outer = and_parts (is_at_most (whole x.low) y && is_at_most y (whole x.high)) (are_in_bounds xs ys) e in
-    let inner = and_parts (is_at_most (whole x.low) y) (is_at_most y (whole x.high)) outer.0 in
-    (le_of_test (x.low *ℤ pos y.den) (y.num *ℤ pos 1) inner.0, le_of_test (y.num *ℤ pos 1) (x.high *ℤ pos y.den) inner.1, bounds_of_test xs ys outer.1)
+    let outer = and_parts (nat_lt 0 y.den && is_at_most (whole x.low) y && is_at_most y (whole x.high)) (are_in_bounds xs ys) e in
+    let ends = and_parts (nat_lt 0 y.den && is_at_most (whole x.low) y) (is_at_most y (whole x.high)) outer.0 in
+    let inner = and_parts (nat_lt 0 y.den) (is_at_most (whole x.low) y) ends.0 in (
+      (Decides-ltb 0 y.den).0 inner.0,
+      le_of_test (x.low *ℤ pos y.den) (y.num *ℤ pos 1) inner.1,
+      le_of_test (y.num *ℤ pos 1) (x.high *ℤ pos y.den) ends.1,
+      bounds_of_test xs ys outer.1,
+    )
 
 test_of_bounds : (xs : List Var) (ys : List Fraction) → AreInBounds xs ys → are_in_bounds xs ys ≡ true
 test_of_bounds [] [] h = refl
 test_of_bounds [] (y ∷ ys) h = absurd h
 test_of_bounds (x ∷ xs) [] h = absurd h
 test_of_bounds (x ∷ xs) (y ∷ ys) h =
-    and_from (is_at_most (whole x.low) y && is_at_most y (whole x.high)) (are_in_bounds xs ys)
-    (and_from (is_at_most (whole x.low) y) (is_at_most y (whole x.high)) (test_of_le (x.low *ℤ pos y.den) (y.num *ℤ pos 1) h.0) (test_of_le (y.num *ℤ pos 1) (x.high *ℤ pos y.den) h.1))
-    (test_of_bounds xs ys h.2)
+    and_from (nat_lt 0 y.den && is_at_most (whole x.low) y && is_at_most y (whole x.high)) (are_in_bounds xs ys)
+    (and_from (nat_lt 0 y.den && is_at_most (whole x.low) y) (is_at_most y (whole x.high))
+    (and_from (nat_lt 0 y.den) (is_at_most (whole x.low) y) ((Decides-ltb 0 y.den).1 h.0) (test_of_le (x.low *ℤ pos y.den) (y.num *ℤ pos 1) h.1))
+    (test_of_le (y.num *ℤ pos 1) (x.high *ℤ pos y.den) h.2))
+    (test_of_bounds xs ys h.3)
 
 pub AreInBounds-length : (xs : List Var) (ys : List Fraction) → AreInBounds xs ys → length ys ≡ length xs
 AreInBounds-length [] [] h = refl
 AreInBounds-length [] (y ∷ ys) h = absurd h
 AreInBounds-length (x ∷ xs) [] h = absurd h
-AreInBounds-length (x ∷ xs) (y ∷ ys) h = ap suc (AreInBounds-length xs ys h.2)
+AreInBounds-length (x ∷ xs) (y ∷ ys) h = ap suc (AreInBounds-length xs ys h.3)
+
+pub AreInBounds-dens : (xs : List Var) (ys : List Fraction) → AreInBounds xs ys → All HasPositiveDen ys
+AreInBounds-dens [] [] h = All-nil HasPositiveDen
+AreInBounds-dens [] (y ∷ ys) h = absurd h
+AreInBounds-dens (x ∷ xs) [] h = absurd h
+AreInBounds-dens (x ∷ xs) (y ∷ ys) h = All-cons HasPositiveDen y ys h.0 (AreInBounds-dens xs ys h.3)
 
 -- ---- leaves
 
@@ -233,15 +245,17 @@ chosen true x e = (refl, e)
 chosen false x e = cc
 
 module _ (P : Problem) (v : Fraction) (bx : List Range) (point : List Fraction) where
-  pub leaf_of_passes : pos 1 ≤ℤ P.scale → 0 < v.den → All HasPositiveDen point → leaf_passes P v bx point ≡ Ok true → IsRightLeaf P v bx point × IsLeafInRange P v bx point
+  pub leaf_of_passes : pos 1 ≤ℤ P.scale → 0 < v.den → leaf_passes P v bx point ≡ Ok true → IsRightLeaf P v bx point × IsLeafInRange P v bx point
   unfolding leaf_passes
-  leaf_of_passes scale v_den proper e =
+  leaf_of_passes scale v_den e =
       let bounds = chosen (are_in_bounds (continuous_vars P) point) (and_then (rows_hold P bx point P.rows) (λ hold. if hold then objective_reaches P v bx point else Ok false)) e in
       let step = bind_parts (rows_hold P bx point P.rows) (λ hold. if hold then objective_reaches P v bx point else Ok false) true bounds.1 in
       let second = chosen step.0 (objective_reaches P v bx point) step.2 in
-      let rows = rows_pass P bx point P.rows (step.1 ∙ ap (λ b. Ok b) second.0) in (
+      let rows = rows_pass P bx point P.rows (step.1 ∙ ap (λ b. Ok b) second.0) in
+      let within = bounds_of_test (continuous_vars P) point bounds.0 in
+      let proper = AreInBounds-dens (continuous_vars P) point within in (
         record {
-          bounds = bounds_of_test (continuous_vars P) point bounds.0;
+          bounds = within;
           rows = λ k d h. (row_says P bx point (get_or P.rows k d) true proper (rows k d h)).0 refl;
           reaches = (objective_says P bx point v true scale v_den proper second.1).0 refl;
         },
@@ -251,9 +265,10 @@ module _ (P : Problem) (v : Fraction) (bx : List Range) (point : List Fraction) 
       ok_from : (x : Checked Bool) → x ≡ Ok true → IsOk x
       ok_from x e = rw e refl
 
-  pub leaf_passes_of : pos 1 ≤ℤ P.scale → 0 < v.den → All HasPositiveDen point → IsRightLeaf P v bx point → IsLeafInRange P v bx point → leaf_passes P v bx point ≡ Ok true
+  pub leaf_passes_of : pos 1 ≤ℤ P.scale → 0 < v.den → IsRightLeaf P v bx point → IsLeafInRange P v bx point → leaf_passes P v bx point ≡ Ok true
   unfolding leaf_passes
-  leaf_passes_of scale v_den proper leaf range =
+  leaf_passes_of scale v_den leaf range =
+      let proper = AreInBounds-dens (continuous_vars P) point leaf.bounds in
       let bounds = test_of_bounds (continuous_vars P) point leaf.bounds in
       let rows = pass_rows P bx point P.rows (λ k d h. row_passes P bx point (get_or P.rows k d) proper (range.0 k d h) (leaf.rows k d h)) in
       let b = bind_ok (objective_reaches P v bx point) range.1 in

@@ -1,26 +1,26 @@
 -- A right leaf's values, over one denominator, meet each row after each prefix in the box and reach the value.
-use Rattle.std.proofs.Common.{◌≡◌, ℕ, zero, suc, ◌+◌, ◌-◌, ◌*◌, ◌<◌, ◌≤◌, Bool, true, false, List, [], ◌∷◌, ◌++◌, length, get_or, map, All, refl, sym, ap, subst, ◌∙◌, ℤ, pos, negsuc, ◌+ℤ◌, ◌*ℤ◌, ◌≤ℤ◌, unsigned_abs, arith}
-use Rattle.std.specs.Prelude.{◌↔◌, if◌then◌else◌, slice_index_or, nat_lt}
+use Rattle.std.proofs.Common.{◌≡◌, ℕ, ◌+◌, ◌-◌, ◌<◌, ◌≤◌, Bool, true, false, List, [], ◌∷◌, length, get_or, map, All, refl, sym, ap, subst, ◌∙◌, ℤ, pos, negsuc, ◌+ℤ◌, ◌*ℤ◌, ◌≤ℤ◌, arith}
+use Rattle.std.specs.Prelude.{slice_index_or, nat_lt}
 use Rattle.std.specs.List.{AllZip}
-use Rattle.std.proofs.Math.IntN.{*ℤ_comm, zero-*ℤ}
+use Rattle.std.proofs.Math.IntN.{zero-*ℤ}
 use Rattle.std.proofs.lemmas.Int.{ints}
 use Rattle.std.proofs.lemmas.Bool.Decides.{nat_tests, Decides-ltb}
 use Rattle.std.proofs.lemmas.List.{length-map, length-drop, length-append, get_or-map, get_or_append_left, get_or-append_right}
-use Rattle.std.proofs.lemmas.List.Elements.{All-cons, All-nil, All-head, All-tail, AllZip-get_or}
+use Rattle.std.proofs.lemmas.List.Elements.{AllZip-get_or}
 use Rattle.std.proofs.lemmas.Slice.Zip.{AllZip-long}
 use Rattle.qm_math.specs.Fraction.{Fraction, HasPositiveDen, whole, IsAtMost, IsSame}
-use Rattle.qm_math.specs.Arithmetic.{sum_of, product_of, quotient_of, inverse_of}
+use Rattle.qm_math.specs.Arithmetic.{sum_of, product_of, quotient_of}
 use Rattle.qm_math.specs.Over.{over, common_den, common_nums}
-use Rattle.qm_math.specs.Ranges.{IsBetween, least_product, greatest_product}
+use Rattle.qm_math.specs.Ranges.{least_product, greatest_product}
 use Rattle.qm_math.specs.Sums.{sum_of_each}
 use Rattle.qm_math.specs.Totals.{total_of}
-use Rattle.qm_math.proofs.Polynomials.{number, ◌⊕◌, ◌⊗◌}
+use Rattle.qm_math.proofs.Polynomials.{number, ◌⊗◌}
 use Rattle.qm_math.proofs.Ring.{x0, x1, x2, ring}
 use Rattle.qm_math.proofs.Between.{least_product_le, le_greatest_product}
 use Rattle.qm_math.proofs.Compare.{at_most_trans}
-use Rattle.qm_math.proofs.FractionLaws.{same_refl, same_sym, same_trans, sum_of_den, product_of_den, product_of-same, product_of-whole, product_of_comm, inverse_of_den}
-use Rattle.qm_math.proofs.FractionOrder.{at_most_congr, at_most-same, sum_of-at_most, product_of-at_most, num_nonneg}
-use Rattle.qm_math.proofs.Over.{sum_of-over, product_of-whole-over, over-at_most-whole, whole-at_most-over, whole-over, total_of-over, common_den_pos, common_nums-same}
+use Rattle.qm_math.proofs.FractionLaws.{same_refl, same_sym, same_trans, sum_of_den, product_of_den, product_of-same, product_of-whole}
+use Rattle.qm_math.proofs.FractionOrder.{at_most_congr, at_most-same, sum_of-at_most}
+use Rattle.qm_math.proofs.Over.{sum_of-over, product_of-whole-over, over-at_most-whole, whole-at_most-over, whole-over, total_of-over, common_den_pos, common_nums-same, quotient_of-over}
 use Rattle.qm_math.proofs.Totals.{total_of_den, total_of-at_most}
 use Rattle.qm_model.specs.declared.row.Row.{Row}
 use Rattle.qm_model.specs.declared.row.Term.{Term}
@@ -30,21 +30,15 @@ use Rattle.qm_model.specs.declared.game.Problem.{Problem}
 use Rattle.qm_model.specs.Linear.{HasVarsBelow, IsOrdered, form}
 use Rattle.qm_model.specs.Points.{Meets, AreWithinOver, HoldsOver, continuous_vars, objective_at, values_over}
 use Rattle.qm_model.specs.Sound.{IsSound, IsRowOver}
-use Rattle.qm_model.proofs.Forms.{sum_of_terms, sum_over-sum_of_terms}
+use Rattle.qm_model.proofs.Forms.{sum_over-each}
 use Rattle.qm_trees.specs.Evaluation.{zero as zero_fraction, least_end_by, greatest_end_by}
 use Rattle.qm_trees.specs.Ranges.{range_at}
 use Rattle.qm_trees.specs.Leaves.{value_at, AreInBounds, sum_at, HoldsAtWorst, least_objective, IsRightLeaf}
 use Rattle.qm_trees.specs.Reaching.{HasValue, point_of}
-use Rattle.qm_trees.proofs.LeafLines.{AreInBounds-length, value_den, sum_at_den, quotient_den}
+use Rattle.qm_trees.proofs.CombinationSound.{quotient_of-at_most}
+use Rattle.qm_trees.proofs.LeafLines.{value_den, sum_at_den, quotient_den}
 
 -- ---- a form as a sum over its terms
-
-sum_of_terms-each : {A : Type 0} (f : ℤ → A → ℤ) (d : A) (ts : List Term) (parts : List A)
-    → sum_of_terms f d ts 0 parts ≡ sum_of_each (λ t. f t.coef (get_or parts t.var d)) ts
-sum_of_terms-each f d [] parts = refl
-sum_of_terms-each f d (t ∷ ts) parts =
-    let same : t.var - 0 ≡ t.var = omega arith in
-    ap (λ k. f t.coef (get_or parts k d) +ℤ sum_of_terms f d ts 0 parts) same ∙ ap (λ z. f t.coef (get_or parts t.var d) +ℤ z) (sum_of_terms-each f d ts parts)
 
 -- what a term comes to at these values of all variables
 abbrev pub term_at : List ℤ → Term → ℤ
@@ -52,22 +46,21 @@ term_at values t = t.coef *ℤ get_or values t.var (pos 0)
 
 pub form-each : (ts : List Term) (values : List ℤ) → IsOrdered ts → HasVarsBelow (length values) ts → form ts values ≡ sum_of_each (term_at values) ts
 form-each ts values order below =
-    sum_over-sum_of_terms ◌*ℤ◌ (pos 0) (λ a. zero-*ℤ a) ts 0 values order (λ k u h. omega (arith, below k u h)) ∙ sum_of_terms-each ◌*ℤ◌ (pos 0) ts values
+    sum_over-each ◌*ℤ◌ (pos 0) (λ a. zero-*ℤ a) ts values order below
 
 -- ---- bounds
 
-within_over : (d : ℕ) (xs : List Var) (ys : List Fraction) (ns : List ℤ) → 0 < d → All HasPositiveDen ys → AllZip IsSame (map (over d) ns) ys → AreInBounds xs ys → AreWithinOver d xs ns
-within_over d [] [] [] some proper same h = tt
-within_over d [] [] (n ∷ ns) some proper same h = absurd same
-within_over d [] (y ∷ ys) ns some proper same h = absurd h
-within_over d (x ∷ xs) [] ns some proper same h = absurd h
-within_over d (x ∷ xs) (y ∷ ys) [] some proper same h = absurd same
-within_over d (x ∷ xs) (y ∷ ys) (n ∷ ns) some proper same h =
-    let y_den = All-head HasPositiveDen y ys proper in
+within_over : (d : ℕ) (xs : List Var) (ys : List Fraction) (ns : List ℤ) → 0 < d → AllZip IsSame (map (over d) ns) ys → AreInBounds xs ys → AreWithinOver d xs ns
+within_over d [] [] [] some same h = tt
+within_over d [] [] (n ∷ ns) some same h = absurd same
+within_over d [] (y ∷ ys) ns some same h = absurd h
+within_over d (x ∷ xs) [] ns some same h = absurd h
+within_over d (x ∷ xs) (y ∷ ys) [] some same h = absurd same
+within_over d (x ∷ xs) (y ∷ ys) (n ∷ ns) some same h =
     let back : IsSame y (over d n) = same_sym (over d n) y same.0 in (
-      (whole-at_most-over d x.low n).0 (at_most_congr (whole x.low) y (whole x.low) (over d n) (omega arith) y_den (same_refl (whole x.low)) back h.0),
-      (over-at_most-whole d n x.high).0 (at_most_congr y (whole x.high) (over d n) (whole x.high) y_den (omega arith) back (same_refl (whole x.high)) h.1),
-      within_over d xs ys ns some (All-tail HasPositiveDen y ys proper) same.1 h.2,
+      (whole-at_most-over d x.low n).0 (at_most_congr (whole x.low) y (whole x.low) (over d n) (omega arith) h.0 (same_refl (whole x.low)) back h.1),
+      (over-at_most-whole d n x.high).0 (at_most_congr y (whole x.high) (over d n) (whole x.high) h.0 (omega arith) back (same_refl (whole x.high)) h.2),
+      within_over d xs ys ns some same.1 h.3,
     )
 
 -- ---- ends
@@ -102,29 +95,6 @@ whole_product_at_least d k v w some h =
     (same_sym (product_of (whole k) (whole v)) (whole (k *ℤ v)) (product_of-whole k v))
     (same_sym (over d (k *ℤ (v *ℤ pos d))) (product_of (whole k) (whole v)) (product_over d k v)))
     (omega (arith, ints, h))
-
--- ---- quotients
-
-inverse_above : (k : ℤ) → pos 1 ≤ℤ k → IsAtMost (whole (pos 0)) (inverse_of (whole k))
-unfolding inverse_of
-inverse_above (pos zero) h = absurd (omega (arith, ints))
-inverse_above (pos (suc n)) h = omega (arith, ints)
-inverse_above (negsuc n) h = absurd (omega (arith, ints))
-
-quotient_at_most : (a b : Fraction) (k : ℤ) → pos 1 ≤ℤ k → 0 < a.den → 0 < b.den → IsAtMost a b → IsAtMost (quotient_of a (whole k)) (quotient_of b (whole k))
-quotient_at_most a b k scale a_den b_den h =
-    let i = inverse_of (whole k) in
-    let i_den : 0 < i.den = inverse_of_den (whole k) (λ e. omega (arith, ints)) in
-    at_most_congr (product_of i a) (product_of i b) (product_of a i) (product_of b i) (product_of_den i a i_den a_den) (product_of_den i b i_den b_den)
-    (product_of_comm i a) (product_of_comm i b) (product_of-at_most i a b (inverse_above k scale) h)
-
--- the quotient by a whole number, as the objective of a point is written
-quotient_over : (d : ℕ) (n k : ℤ) → pos 1 ≤ℤ k → IsSame (quotient_of (over d n) (whole k)) (record { num = n; den = unsigned_abs k * d })
-unfolding product_of inverse_of
-quotient_over d n (pos zero) h = absurd (omega (arith, ints))
-quotient_over d n (pos (suc m)) h =
-    ring (n ∷ pos (suc m) ∷ pos d ∷ []) ((x0 ⊗ (number (pos 1) ⊗ number (pos 1))) ⊗ (x1 ⊗ x2)) (x0 ⊗ (x2 ⊗ x1)) refl
-quotient_over d n (negsuc m) h = absurd (omega (arith, ints))
 
 -- ---- a leaf's values after a prefix in the box
 
@@ -264,15 +234,15 @@ module _ (P : Problem) (sound : IsSound P) (prefix : List ℤ) (bx : List Range)
       let total_above : IsAtMost (sum_of least c) (sum_of f c_over) = sum_of-at_most least c f c_over form_above (at_most-same c c_over (whole-over d P.constant)) in
       let n_above : IsAtMost (sum_of least c) (over d n) = at_most_congr (sum_of least c) (sum_of f c_over) (sum_of least c) (over d n) (sum_of_den least c dens one) (sum_of_den f c_over d_pos d_pos)
       (same_refl (sum_of least c)) (sum_of-over d (form ts values) (P.constant *ℤ pos d)) total_above in
-      let quotient = quotient_at_most (sum_of least c) (over d n) P.scale sound.scale_positive (sum_of_den least c dens one) d_pos n_above in
+      let quotient = quotient_of-at_most (sum_of least c) (over d n) P.scale sound.scale_positive (sum_of_den least c dens one) d_pos n_above in
       at_most_congr (quotient_of (sum_of least c) (whole P.scale)) (quotient_of (over d n) (whole P.scale)) (quotient_of (sum_of least c) (whole P.scale)) (objective_at P prefix (point_of point))
       (quotient_den (sum_of least c) P.scale sound.scale_positive (sum_of_den least c dens one)) (quotient_den (over d n) P.scale sound.scale_positive d_pos)
-      (same_refl (quotient_of (sum_of least c) (whole P.scale))) (quotient_over d n P.scale sound.scale_positive) quotient
+      (same_refl (quotient_of (sum_of least c) (whole P.scale))) (quotient_of-over d n P.scale sound.scale_positive) quotient
 
   pub leaf_meets : (v : Fraction) → IsRightLeaf P v bx point → Meets P prefix (point_of point)
   leaf_meets v leaf = record {
     positive = d_pos;
-    within = within_over d (continuous_vars P) point ns d_pos proper nums_same leaf.bounds;
+    within = within_over d (continuous_vars P) point ns d_pos nums_same leaf.bounds;
     rows = λ k e h. row_holds_over (get_or P.rows k e) (sound.rows k e h) (leaf.rows k e h);
   }
 

@@ -1,6 +1,7 @@
 -- Which verdicts are fine, and the tests of lines as facts.
-use Rattle.std.proofs.Common.{◌≡◌, Bool, true, false, not, refl, sym, subst, ℤ, ◌≤ℤ◌, ◌<ℤ◌, arith, Ok, Err}
-use Rattle.std.specs.Prelude.{int_le, int_lt, IsOk}
+use Rattle.std.proofs.Common.{◌≡◌, Bool, true, false, not, refl, sym, subst, true≢false, ℤ, ◌≤ℤ◌, ◌<ℤ◌, arith, Ok, Err}
+use Rattle.std.specs.Prelude.{int_le, int_lt, IsOk, if◌then◌else◌}
+use Rattle.std.specs.Bool.{Decides}
 use Rattle.std.proofs.lemmas.Int.{ints}
 use Rattle.qm_frac.specs.Checked.{Checked, and_then}
 use Rattle.qm_trees.specs.declared.rule.Rule.{Rule}
@@ -25,6 +26,10 @@ false_of_le a b h = grind (arith, ints)
 pub true_of_not : (b : Bool) → not b ≡ true → b ≡ false
 true_of_not true e = sym e
 true_of_not false e = refl
+
+-- the test that is false of what never holds
+pub never : Decides false ⊥
+never = (λ e. absurd (true≢false (sym e)), λ h. absurd h)
 
 -- both of two verdicts
 pub fine_parts : (a b : Verdict) → IsFine (a then b) → IsFine a × IsFine b
@@ -72,3 +77,15 @@ bind_parts (Err leaves) f r e = cc
 pub bind_ok : {A : Type 0} (x : Checked A) → IsOk x → (y : A) × (x ≡ Ok y)
 bind_ok (Ok y) h = (y, refl)
 bind_ok (Err leaves) h = cc
+
+-- ---- a test that stands before another
+
+abbrev pub tested : Bool → Checked Bool → Checked Bool
+tested b x = if b then x else Ok false
+
+pub tested_parts : (b : Bool) (x : Checked Bool) → tested b x ≡ Ok true → (b ≡ true) × (x ≡ Ok true)
+tested_parts true x e = (refl, e)
+tested_parts false x e = cc
+
+pub tested_from : (b : Bool) (x : Checked Bool) → b ≡ true → x ≡ Ok true → tested b x ≡ Ok true
+tested_from b x e h = rw e h

@@ -1,36 +1,31 @@
 -- A right policy reaches its value on every universal play, and so wins.
-use Rattle.std.proofs.Common.{◌≡◌, ℕ, zero, suc, ◌+◌, ◌<◌, ◌≤◌, Bool, true, false, List, [], ◌∷◌, ◌++◌, length, get_or, map, set, All, refl, sym, ap, subst, ◌∙◌, ℤ, pos, ◌+ℤ◌, ◌≤ℤ◌, ◌<ℤ◌, arith, inl, inr}
+use Rattle.std.proofs.Common.{◌≡◌, ℕ, zero, suc, ◌+◌, ◌<◌, Bool, List, [], ◌∷◌, ◌++◌, length, get_or, map, set, refl, sym, ap, subst, ◌∙◌, ℤ, pos, ◌+ℤ◌, ◌≤ℤ◌, ◌<ℤ◌, arith, inl, inr}
 use Rattle.std.specs.Prelude.{◌⊎◌, Any, filter, slice_set, if◌then◌else◌}
 use Rattle.std.specs.List.{AllZip}
 use Rattle.std.proofs.Math.Seq.{set-append_seam, get_or-append_seam}
 use Rattle.std.proofs.lemmas.Int.{ints}
 use Rattle.std.proofs.lemmas.List.{length-append, length-take, take-append-drop, append_assoc, get_or_append_left}
 use Rattle.std.proofs.lemmas.Slice.Zip.{AllZip-long}
-use Rattle.qm_math.specs.Fraction.{Fraction, HasPositiveDen}
-use Rattle.qm_math.specs.Ranges.{IsBetween}
+use Rattle.qm_math.specs.Fraction.{Fraction}
 use Rattle.qm_model.specs.declared.range.Range.{Range}
-use Rattle.qm_model.specs.declared.variable.Player.{Player}
-use Rattle.qm_model.specs.declared.variable.Player.TheVariants.{Exists, All as Universal}
+use Rattle.qm_model.specs.declared.variable.Player.TheVariants.{All as Universal}
 use Rattle.qm_model.specs.declared.variable.Var.{Var}
 use Rattle.qm_model.specs.declared.game.Problem.{Problem}
 use Rattle.qm_model.specs.Boxes.{Cover, FollowOn, bounds_of, whole_box_of}
 use Rattle.qm_model.specs.Goals.{Goal, AtLeast}
-use Rattle.qm_model.specs.Legal.{IsLegal}
-use Rattle.qm_model.specs.Plays.{AreWithin, IsPlay, IsWithin, is_universal, universal_vars, whole_vars}
+use Rattle.qm_model.specs.Plays.{AreWithin, IsPlay, IsWithin, is_universal, whole_vars}
 use Rattle.qm_model.specs.Points.{continuous_vars}
 use Rattle.qm_model.specs.Sound.{IsSound}
-use Rattle.qm_model.specs.Wins.{MatchPlayer, WinsAtEnd, WinsFrom, Wins}
+use Rattle.qm_model.specs.Wins.{WinsAtEnd, WinsFrom, Wins}
+use Rattle.qm_model.proofs.Players.{is_for_all, not_universal}
 use Rattle.qm_trees.specs.declared.policy.Policy.{Policy, out-Policy}
 use Rattle.qm_trees.specs.declared.policy.Below.TheOpen as node
-use Rattle.qm_trees.specs.declared.policy.PolicyPart.{PolicyPart}
 use Rattle.qm_trees.specs.Ranges.{range_at, single}
 use Rattle.qm_trees.specs.PolicyJudgement.{Layer, range_of, below_of}
 use Rattle.qm_trees.specs.PolicyRight.{IsRightEnd, IsRightMove, IsRightPolicy}
-use Rattle.qm_trees.specs.Passing.{HasProperEnd, HasProperMove, HasProperLeaves}
 use Rattle.qm_trees.specs.Reaching.{HasValue, PolicyReaches, ReachesAtEnd, ReachesByMove, point_of}
-use Rattle.qm_trees.proofs.LeafLines.{AreInBounds-length}
+use Rattle.qm_trees.proofs.LeafLines.{AreInBounds-dens, AreInBounds-length}
 use Rattle.qm_trees.proofs.LeafPoints.{leaf_meets, leaf_reaches}
-use Rattle.qm_trees.proofs.PolicyLines.{is_for_all, not_universal}
 
 -- ---- the part that has a value
 
@@ -110,47 +105,44 @@ module _ (P : Problem) (sound : IsSound P) (v : Fraction) (depth : ℕ) (prefix 
       ap (λ b. range_at b i) place.box_is ∙ get_or_append_left place.done (whole_box_of (continuous_vars P)) (single (pos 0)) i below in
       rw same (in_at place.done prefix i place.values below)
 
-  end_reaches : (layer : Layer) → HasProperEnd layer → IsRightEnd P v bx layer → ReachesAtEnd P v prefix layer
-  end_reaches (node.Leaf point) proper leaf =
-      let count = AreInBounds-length (continuous_vars P) point leaf.bounds in (
+  end_reaches : (layer : Layer) → IsRightEnd P v bx layer → ReachesAtEnd P v prefix layer
+  end_reaches (node.Leaf point) leaf =
+      let count = AreInBounds-length (continuous_vars P) point leaf.bounds in
+      let proper = AreInBounds-dens (continuous_vars P) point leaf.bounds in (
         leaf_meets P sound prefix bx point length-prefix inside count proper v leaf,
         leaf_reaches P sound prefix bx point length-prefix inside count proper v leaf,
       )
-  end_reaches (node.Choose value below) proper right = absurd right
-  end_reaches (node.Answer parts) proper right = absurd right
+  end_reaches (node.Choose value below) right = absurd right
+  end_reaches (node.Answer parts) right = absurd right
 
-  end_wins : (layer : Layer) → HasProperEnd layer → IsRightEnd P v bx layer → WinsAtEnd P prefix (AtLeast v)
-  end_wins (node.Leaf point) proper leaf =
-      let both = end_reaches (node.Leaf point) proper leaf in
+  end_wins : (layer : Layer) → IsRightEnd P v bx layer → WinsAtEnd P prefix (AtLeast v)
+  end_wins (node.Leaf point) leaf =
+      let both = end_reaches (node.Leaf point) leaf in
       record { point = point_of point; meets = both.0; reaches = both.1 }
-  end_wins (node.Choose value below) proper right = absurd right
-  end_wins (node.Answer parts) proper right = absurd right
+  end_wins (node.Choose value below) right = absurd right
+  end_wins (node.Answer parts) right = absurd right
 
 -- ---- moves
 
-part_below : (IsProper : Policy → Type 0) (k : ℕ) (parts : List PolicyPart) (part : PolicyPart) → get_or parts k part ≡ part → IsProper (below_of (get_or parts k part)) → IsProper (below_of part)
-part_below IsProper k parts part e h = subst (λ p. IsProper (below_of p)) e h
-
-module _ (P : Problem) (x : Var) (xs : List Var) (depth : ℕ) (IsProper : Policy → Type 0) (IsRight : List Range → Policy → Type 0) where
+module _ (P : Problem) (x : Var) (xs : List Var) (depth : ℕ) (IsRight : List Range → Policy → Type 0) where
   wins_by_move : (G : Goal)
-      → ((prefix : List ℤ) (bx : List Range) (policy : Policy) → Place P xs (depth + 1) prefix bx → IsProper policy → IsRight bx policy → WinsFrom P G xs prefix)
-      → (prefix : List ℤ) (bx : List Range) (layer : Layer) → Place P (x ∷ xs) depth prefix bx → HasProperMove IsProper layer → IsRightMove x depth IsRight bx layer
+      → ((prefix : List ℤ) (bx : List Range) (policy : Policy) → Place P xs (depth + 1) prefix bx → IsRight bx policy → WinsFrom P G xs prefix)
+      → (prefix : List ℤ) (bx : List Range) (layer : Layer) → Place P (x ∷ xs) depth prefix bx → IsRightMove x depth IsRight bx layer
       → WinsFrom P G (x ∷ xs) prefix
-  wins_by_move G below prefix bx (node.Leaf point) place proper right = absurd right
-  wins_by_move G below prefix bx (node.Choose value policy) place proper right =
+  wins_by_move G below prefix bx (node.Leaf point) place right = absurd right
+  wins_by_move G below prefix bx (node.Choose value policy) place right =
       let here = next_range P x xs depth prefix bx place in
       let within : IsWithin x value = subst (λ (r : Range). HasValue r value) here right.1 in
       let has : HasValue (single value) value = (omega (arith, ints), omega (arith, ints)) in
-      rw right.0 (value, within, below (prefix ++ value ∷ []) (slice_set bx depth (single value)) policy (next_place P x xs depth prefix bx (single value) value place has) proper right.2)
-  wins_by_move G below prefix bx (node.Answer parts) place proper right =
+      rw right.0 (value, within, below (prefix ++ value ∷ []) (slice_set bx depth (single value)) policy (next_place P x xs depth prefix bx (single value) value place has) right.2)
+  wins_by_move G below prefix bx (node.Answer parts) place right =
       let here = next_range P x xs depth prefix bx place in
       rw right.0 (λ u within legal. answer u (cover_finds range_of (range_at bx depth) parts u right.1 (subst (λ (r : Range). HasValue r u) (sym here) within)))
     where
       answer : (u : ℤ) → Finds range_of parts u → WinsFrom P G xs (prefix ++ u ∷ [])
       answer u (k, part, h, is, has) =
           let right_here : IsRight (slice_set bx depth (range_of part)) (below_of part) = subst (λ p. IsRight (slice_set bx depth (range_of p)) (below_of p)) is (right.2 k part h) in
-          let proper_here : IsProper (below_of part) = subst (λ p. IsProper (below_of p)) is (proper k part h) in
-          below (prefix ++ u ∷ []) (slice_set bx depth (range_of part)) (below_of part) (next_place P x xs depth prefix bx (range_of part) u place has) proper_here right_here
+          below (prefix ++ u ∷ []) (slice_set bx depth (range_of part)) (below_of part) (next_place P x xs depth prefix bx (range_of part) u place has) right_here
 
   -- the universal values that are left, at a universal variable
   first_within : (us : List ℤ) → x.player ≡ Universal → AreWithin (filter is_universal (x ∷ xs)) us → (u : ℤ) × (later : List ℤ) × (us ≡ u ∷ later) × IsWithin x u × AreWithin (filter is_universal xs) later
@@ -161,20 +153,20 @@ module _ (P : Problem) (x : Var) (xs : List Var) (depth : ℕ) (IsProper : Polic
       by (u ∷ later) h = (u, later, refl, h.0, h.1)
 
   reaches_by_move : (Reaches : List ℤ → List ℤ → Policy → Type 0)
-      → ((prefix : List ℤ) (us : List ℤ) (bx : List Range) (policy : Policy) → Place P xs (depth + 1) prefix bx → AreWithin (filter is_universal xs) us → IsProper policy → IsRight bx policy → Reaches prefix us policy)
+      → ((prefix : List ℤ) (us : List ℤ) (bx : List Range) (policy : Policy) → Place P xs (depth + 1) prefix bx → AreWithin (filter is_universal xs) us → IsRight bx policy → Reaches prefix us policy)
       → (prefix : List ℤ) (us : List ℤ) (bx : List Range) (layer : Layer) → Place P (x ∷ xs) depth prefix bx → AreWithin (filter is_universal (x ∷ xs)) us
-      → HasProperMove IsProper layer → IsRightMove x depth IsRight bx layer → ReachesByMove x Reaches prefix us layer
-  reaches_by_move Reaches below prefix us bx (node.Leaf point) place within proper right = absurd right
-  reaches_by_move Reaches below prefix us bx (node.Choose value policy) place within proper right =
+      → IsRightMove x depth IsRight bx layer → ReachesByMove x Reaches prefix us layer
+  reaches_by_move Reaches below prefix us bx (node.Leaf point) place within right = absurd right
+  reaches_by_move Reaches below prefix us bx (node.Choose value policy) place within right =
       let here = next_range P x xs depth prefix bx place in
       let chosen : IsWithin x value = subst (λ (r : Range). HasValue r value) here right.1 in
       let has : HasValue (single value) value = (omega (arith, ints), omega (arith, ints)) in
       let later : AreWithin (filter is_universal xs) us = subst (λ (b : Bool). AreWithin (if b then x ∷ filter is_universal xs else filter is_universal xs) us) (not_universal x right.0) within in (
         right.0,
         chosen,
-        below (prefix ++ value ∷ []) us (slice_set bx depth (single value)) policy (next_place P x xs depth prefix bx (single value) value place has) later proper right.2,
+        below (prefix ++ value ∷ []) us (slice_set bx depth (single value)) policy (next_place P x xs depth prefix bx (single value) value place has) later right.2,
       )
-  reaches_by_move Reaches below prefix us bx (node.Answer parts) place within proper right =
+  reaches_by_move Reaches below prefix us bx (node.Answer parts) place within right =
       let first = first_within us right.0 within in
       let u = first.0 in
       let here = next_range P x xs depth prefix bx place in
@@ -183,23 +175,23 @@ module _ (P : Problem) (x : Var) (xs : List Var) (depth : ℕ) (IsProper : Polic
         right.0,
         cover_finds range_of (range_at bx depth) parts u right.1 covered,
         λ k part h has. below (prefix ++ u ∷ []) first.1 (slice_set bx depth (range_of (get_or parts k part))) (below_of (get_or parts k part))
-            (next_place P x xs depth prefix bx (range_of (get_or parts k part)) u place has) first.4 (proper k part h) (right.2 k part h),
+            (next_place P x xs depth prefix bx (range_of (get_or parts k part)) u place has) first.4 (right.2 k part h),
       )
 
 -- ---- policies
 
 module _ (P : Problem) (sound : IsSound P) (v : Fraction) where
-  wins_from : (xs : List Var) (depth : ℕ) (prefix : List ℤ) (bx : List Range) (policy : Policy) → Place P xs depth prefix bx → HasProperLeaves xs policy → IsRightPolicy P v xs depth bx policy
+  wins_from : (xs : List Var) (depth : ℕ) (prefix : List ℤ) (bx : List Range) (policy : Policy) → Place P xs depth prefix bx → IsRightPolicy P v xs depth bx policy
       → WinsFrom P (AtLeast v) xs prefix
-  wins_from [] depth prefix bx policy place proper right = end_wins P sound v depth prefix bx place (out-Policy policy) proper right
-  wins_from (x ∷ xs) depth prefix bx policy place proper right =
-      wins_by_move P x xs depth (HasProperLeaves xs) (IsRightPolicy P v xs (depth + 1)) (AtLeast v) (wins_from xs (depth + 1)) prefix bx (out-Policy policy) place proper right
+  wins_from [] depth prefix bx policy place right = end_wins P sound v depth prefix bx place (out-Policy policy) right
+  wins_from (x ∷ xs) depth prefix bx policy place right =
+      wins_by_move P x xs depth (IsRightPolicy P v xs (depth + 1)) (AtLeast v) (wins_from xs (depth + 1)) prefix bx (out-Policy policy) place right
 
   reaches_from : (xs : List Var) (depth : ℕ) (prefix : List ℤ) (us : List ℤ) (bx : List Range) (policy : Policy) → Place P xs depth prefix bx → AreWithin (filter is_universal xs) us
-      → HasProperLeaves xs policy → IsRightPolicy P v xs depth bx policy → PolicyReaches P v xs prefix us policy
-  reaches_from [] depth prefix us bx policy place within proper right = end_reaches P sound v depth prefix bx place (out-Policy policy) proper right
-  reaches_from (x ∷ xs) depth prefix us bx policy place within proper right =
-      reaches_by_move P x xs depth (HasProperLeaves xs) (IsRightPolicy P v xs (depth + 1)) (PolicyReaches P v xs) (reaches_from xs (depth + 1)) prefix us bx (out-Policy policy) place within proper right
+      → IsRightPolicy P v xs depth bx policy → PolicyReaches P v xs prefix us policy
+  reaches_from [] depth prefix us bx policy place within right = end_reaches P sound v depth prefix bx place (out-Policy policy) right
+  reaches_from (x ∷ xs) depth prefix us bx policy place within right =
+      reaches_by_move P x xs depth (IsRightPolicy P v xs (depth + 1)) (PolicyReaches P v xs) (reaches_from xs (depth + 1)) prefix us bx (out-Policy policy) place within right
 
   first_place : Place P (whole_vars P) 0 [] (whole_box_of P.vars)
   first_place = record {
@@ -210,9 +202,9 @@ module _ (P : Problem) (sound : IsSound P) (v : Fraction) where
     total = omega (arith, length-take P.wholes P.vars, sound.wholes);
   }
 
-  pub right_wins : (policy : Policy) → HasProperLeaves (whole_vars P) policy → IsRightPolicy P v (whole_vars P) 0 (whole_box_of P.vars) policy → Wins P [] (AtLeast v)
-  right_wins policy proper right = wins_from (whole_vars P) 0 [] (whole_box_of P.vars) policy first_place proper right
+  pub right_wins : (policy : Policy) → IsRightPolicy P v (whole_vars P) 0 (whole_box_of P.vars) policy → Wins P [] (AtLeast v)
+  right_wins policy right = wins_from (whole_vars P) 0 [] (whole_box_of P.vars) policy first_place right
 
-  pub right_reaches : (policy : Policy) (us : List ℤ) → HasProperLeaves (whole_vars P) policy → IsRightPolicy P v (whole_vars P) 0 (whole_box_of P.vars) policy → IsPlay P us
+  pub right_reaches : (policy : Policy) (us : List ℤ) → IsRightPolicy P v (whole_vars P) 0 (whole_box_of P.vars) policy → IsPlay P us
       → PolicyReaches P v (whole_vars P) [] us policy
-  right_reaches policy us proper right play = reaches_from (whole_vars P) 0 [] us (whole_box_of P.vars) policy first_place play.within proper right
+  right_reaches policy us right play = reaches_from (whole_vars P) 0 [] us (whole_box_of P.vars) policy first_place play.within right

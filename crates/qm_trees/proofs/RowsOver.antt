@@ -1,7 +1,7 @@
 -- A row holds at numerators over one denominator exactly where it holds at the fractions.
-use Rattle.std.proofs.Common.{◌≡◌, refl, ◌↔◌, ℕ, suc, ◌<◌, List, [], ◌∷◌, map, arith, ℤ, pos, ◌+ℤ◌, ◌*ℤ◌, ◌≤ℤ◌}
+use Rattle.std.proofs.Common.{refl, ◌↔◌, ℕ, suc, ◌<◌, List, [], ◌∷◌, map, arith, ℤ, pos, ◌+ℤ◌, ◌*ℤ◌}
 use Rattle.std.proofs.lemmas.Int.{ints}
-use Rattle.qm_math.specs.Fraction.{Fraction, whole, IsSame, IsAtMost}
+use Rattle.qm_math.specs.Fraction.{Fraction, whole, IsSame}
 use Rattle.qm_math.specs.Arithmetic.{sum_of, product_of}
 use Rattle.qm_math.specs.Sums.{sum_from}
 use Rattle.qm_math.specs.Over.{over}
@@ -27,7 +27,7 @@ form_of-over d k var [] = omega (arith, ints)
 form_of-over d k var (v ∷ ns) =
     form_step d (k var) v (sum_from (λ n v. k n *ℤ v) (suc var) ns) (form_of (λ n. whole (k n)) (suc var) (map (over d) ns)) (form_of-over d k (suc var) ns)
 
-form_of-over_den : (d : ℕ) (k : ℕ → ℤ) (var : ℕ) (ns : List ℤ) → 0 < d → 0 < (form_of (λ n. whole (k n)) var (map (over d) ns)).den
+pub form_of-over_den : (d : ℕ) (k : ℕ → ℤ) (var : ℕ) (ns : List ℤ) → 0 < d → 0 < (form_of (λ n. whole (k n)) var (map (over d) ns)).den
 form_of-over_den d k var [] h = whole_den (pos 0)
 form_of-over_den d k var (v ∷ ns) h =
     sum_of_den (product_of (whole (k var)) (over d v)) (form_of (λ n. whole (k n)) (suc var) (map (over d) ns))

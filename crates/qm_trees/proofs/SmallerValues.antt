@@ -1,5 +1,5 @@
 -- A right policy is right at each value that is no greater, and no operation leaves there that doesn't at the value.
-use Rattle.std.proofs.Common.{◌≡◌, ℕ, ◌+◌, ◌<◌, List, [], ◌∷◌, get_or, All, Bool, refl, Ok, Err}
+use Rattle.std.proofs.Common.{ℕ, ◌+◌, ◌<◌, List, [], ◌∷◌, get_or, Bool, refl, Ok, Err}
 use Rattle.std.specs.Prelude.{slice_set, IsOk}
 use Rattle.qm_math.specs.Fraction.{Fraction, whole, IsAtMost, is_at_most}
 use Rattle.qm_math.proofs.Compare.{at_most_trans}
@@ -9,7 +9,7 @@ use Rattle.qm_model.specs.declared.variable.Var.{Var}
 use Rattle.qm_model.specs.declared.game.Problem.{Problem}
 use Rattle.qm_trees.specs.declared.policy.Policy.{Policy, out-Policy}
 use Rattle.qm_trees.specs.declared.policy.Below.TheOpen as node
-use Rattle.qm_trees.specs.Ranges.{range_at, single}
+use Rattle.qm_trees.specs.Ranges.{single}
 use Rattle.qm_trees.specs.PolicyJudgement.{Layer, range_of, below_of}
 use Rattle.qm_trees.specs.PolicyRight.{IsRightEnd, IsRightMove, IsRightPolicy, IsEndInRange, IsMoveInRange, IsPolicyInRange}
 use Rattle.qm_trees.specs.Evaluation.{zero, least_end_by}

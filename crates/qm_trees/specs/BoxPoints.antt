@@ -1,8 +1,10 @@
--- Points of a box: a rational value for each variable, and what rows and the objective come to there.
-use Rattle.std.specs.Prelude.{ℕ, suc, List, [], ◌∷◌}
+-- Points of a box: a rational value for each variable, and what rows and the objective come to there; and the prefixes
+-- in a box.
+use Rattle.std.specs.Prelude.{ℕ, suc, ℤ, List, [], ◌∷◌}
 use Rattle.qm_math.specs.Fraction.{Fraction, whole, HasPositiveDen, IsAtMost}
 use Rattle.qm_math.specs.Arithmetic.{sum_of, product_of, quotient_of}
 use Rattle.qm_math.specs.Ends.{IsWithin}
+use Rattle.qm_math.specs.Ranges.{IsBetween}
 use Rattle.qm_model.specs.declared.range.Range.{Range}
 use Rattle.qm_model.specs.declared.row.Row.{Row}
 use Rattle.qm_model.specs.declared.game.Problem.{Problem}
@@ -15,6 +17,12 @@ IsInBox [] [] = Unit {0}
 IsInBox [] (x ∷ xs) = ⊥
 IsInBox (r ∷ bx) [] = ⊥
 IsInBox (r ∷ bx) (x ∷ xs) = HasPositiveDen x × IsWithin (whole r.low) (whole r.high) x × IsInBox bx xs
+
+-- the prefix's values lie in the first ranges
+abbrev pub BeginIn : List Range → List ℤ → Type 0
+BeginIn bx [] = Unit {0}
+BeginIn [] (v ∷ vs) = ⊥
+BeginIn (r ∷ bx) (v ∷ vs) = IsBetween r.low r.high v × BeginIn bx vs
 
 -- each coefficient times its variable's value, for the variables from `var` on, added up
 abbrev pub form_of : (ℕ → Fraction) → ℕ → List Fraction → Fraction

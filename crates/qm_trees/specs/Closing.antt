@@ -1,5 +1,5 @@
 -- When a combination shows that a goal can't be reached in a box.
-use Rattle.std.specs.Prelude.{Bool, true, false, ◌⊎◌, ◌<ℤ◌, int_lt, List, Any, Ok, if◌then◌else◌}
+use Rattle.std.specs.Prelude.{Bool, true, false, ◌⊎◌, int_lt, List, Any, Ok, if◌then◌else◌}
 use Rattle.std.specs.List.{list_any}
 use Rattle.qm_math.specs.Fraction.{IsAtMost, IsBelow, is_at_most, is_below}
 use Rattle.qm_frac.specs.Checked.{Checked}

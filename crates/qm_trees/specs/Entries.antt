@@ -1,8 +1,8 @@
 -- Combinations: multipliers on rows.
-use Rattle.std.specs.Prelude.{ℕ, ◌<◌, ◌≤◌, ℤ, pos, ◌<ℤ◌, Bool, List, [], ◌∷◌, Option, Some, None, slice_get}
+use Rattle.std.specs.Prelude.{◌<◌, nat_lt, pos, Bool, ◌&&◌, List, [], ◌∷◌, Option, slice_get}
 use Rattle.std.specs.Option.{option_map}
-use Rattle.std.specs.List.{filter_map}
-use Rattle.qm_math.specs.Fraction.{Fraction, whole, IsBelow}
+use Rattle.std.specs.List.{filter_map, list_all}
+use Rattle.qm_math.specs.Fraction.{Fraction, HasPositiveDen, whole, IsBelow, is_below}
 use Rattle.qm_model.specs.declared.row.Row.{Row}
 use Rattle.qm_model.specs.declared.row_id.RowId.{RowId}
 use Rattle.qm_model.specs.declared.row_id.RowId.TheVariants as id
@@ -25,9 +25,15 @@ IsBefore (id.Cut m) (id.Row n) = ⊥
 IsBefore (id.Cut m) (id.Uncertain n) = ⊥
 IsBefore (id.Cut m) (id.Cut n) = m < n
 
--- the multiplier is above 0
+-- the multiplier is a number above 0
 abbrev pub IsPositive : Entry → Type 0
-IsPositive e = IsBelow (whole (pos 0)) e.by
+IsPositive e = HasPositiveDen e.by × IsBelow (whole (pos 0)) e.by
+
+abbrev pub is_positive : Entry → Bool
+is_positive e = nat_lt 0 e.by.den && is_below (whole (pos 0)) e.by
+
+abbrev pub all_positive : List Entry → Bool
+all_positive es = list_all is_positive es
 
 -- multipliers above 0, each on a row behind the one before
 abbrev pub AreEntries : List Entry → Type 0

@@ -1,6 +1,6 @@
 -- A leaf of a policy: values of the continuous variables, which meet the rows at the worst ends of the universal ranges.
-use Rattle.std.specs.Prelude.{◌≡◌, ℕ, ◌-◌, ◌<◌, ℤ, pos, Bool, true, false, ◌&&◌, List, [], ◌∷◌, All, length, Ok, nat_lt, slice_index_or, if◌then◌else◌}
-use Rattle.qm_math.specs.Fraction.{Fraction, whole, IsAtMost, is_at_most}
+use Rattle.std.specs.Prelude.{◌-◌, ℤ, Bool, true, false, ◌&&◌, List, [], ◌∷◌, All, Ok, nat_lt, slice_index_or, if◌then◌else◌}
+use Rattle.qm_math.specs.Fraction.{Fraction, HasPositiveDen, whole, IsAtMost, is_at_most}
 use Rattle.qm_math.specs.Arithmetic.{sum_of, product_of, quotient_of}
 use Rattle.qm_math.specs.Totals.{total_of}
 use Rattle.qm_frac.specs.Checked.{Checked, added, multiplied, divided}
@@ -17,12 +17,12 @@ use Rattle.qm_trees.specs.Ranges.{range_at}
 abbrev pub value_at : (ℤ → Range → ℤ) → Problem → List Range → List Fraction → Term → Fraction
 value_at end_by P bx point t = if nat_lt t.var P.wholes then whole (end_by t.coef (range_at bx t.var)) else slice_index_or point (t.var - P.wholes) zero
 
--- each value within its variable's own bounds
+-- each value is a number within its variable's own bounds
 abbrev pub AreInBounds : List Var → List Fraction → Type 0
 AreInBounds [] [] = Unit {0}
 AreInBounds [] (y ∷ ys) = ⊥
 AreInBounds (x ∷ xs) [] = ⊥
-AreInBounds (x ∷ xs) (y ∷ ys) = IsAtMost (whole x.low) y × IsAtMost y (whole x.high) × AreInBounds xs ys
+AreInBounds (x ∷ xs) (y ∷ ys) = HasPositiveDen y × IsAtMost (whole x.low) y × IsAtMost y (whole x.high) × AreInBounds xs ys
 
 -- ---- exactly
 
@@ -67,7 +67,7 @@ abbrev pub are_in_bounds : List Var → List Fraction → Bool
 are_in_bounds [] [] = true
 are_in_bounds [] (y ∷ ys) = false
 are_in_bounds (x ∷ xs) [] = false
-are_in_bounds (x ∷ xs) (y ∷ ys) = is_at_most (whole x.low) y && is_at_most y (whole x.high) && are_in_bounds xs ys
+are_in_bounds (x ∷ xs) (y ∷ ys) = nat_lt 0 y.den && is_at_most (whole x.low) y && is_at_most y (whole x.high) && are_in_bounds xs ys
 
 -- all bounds come first, then the rows, then the objective
 unfoldable pub leaf_passes : Problem → Fraction → List Range → List Fraction → Checked Bool

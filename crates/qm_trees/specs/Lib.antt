@@ -9,6 +9,7 @@ pub mod PolicyJudgement
 pub mod PolicyRight
 pub mod Picks
 pub mod RefuteJudgement
+pub mod Cuts
 pub mod RefuteRight
 pub mod EmptyJudgement
 pub mod EmptyRight

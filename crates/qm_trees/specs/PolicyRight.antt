@@ -1,17 +1,15 @@
 -- When a policy is right: each leaf meets the rows and reaches the value, whatever the universal player does.
-use Rattle.std.specs.Prelude.{◌≡◌, ℕ, ◌+◌, ℤ, ◌≤ℤ◌, List, [], ◌∷◌, All, map, slice_set, IsOk, length}
+use Rattle.std.specs.Prelude.{◌≡◌, ℕ, ◌+◌, List, [], ◌∷◌, All, map, slice_set, IsOk}
 use Rattle.qm_math.specs.Fraction.{Fraction}
 use Rattle.qm_math.specs.Ranges.{IsBetween}
 use Rattle.qm_model.specs.declared.range.Range.{Range}
 use Rattle.qm_model.specs.declared.variable.Player.TheVariants.{Exists, All as Universal}
 use Rattle.qm_model.specs.declared.variable.Var.{Var}
-use Rattle.qm_model.specs.declared.row.Row.{Row}
 use Rattle.qm_model.specs.declared.game.Problem.{Problem}
 use Rattle.qm_model.specs.Boxes.{Cover}
 use Rattle.qm_trees.specs.declared.policy.Policy.{Policy, out-Policy}
 use Rattle.qm_trees.specs.declared.policy.Below.TheOpen as node
 use Rattle.qm_trees.specs.Ranges.{range_at, single}
-use Rattle.qm_trees.specs.Evaluation.{zero}
 use Rattle.qm_trees.specs.Leaves.{IsRightLeaf, row_holds, objective_reaches}
 use Rattle.qm_trees.specs.PolicyJudgement.{Layer, range_of, below_of}
 

@@ -1,5 +1,5 @@
 -- A refutation, judged in the order of its text.
-use Rattle.std.specs.Prelude.{ℕ, ◌+◌, ℤ, Bool, false, not, ◌&&◌, ◌||◌, ◌==◌, List, [], ◌∷◌, length, drop, Ok, is_some, slice_set, if◌then◌else◌}
+use Rattle.std.specs.Prelude.{ℕ, ◌+◌, Bool, false, not, ◌&&◌, ◌||◌, ◌==◌, List, [], ◌∷◌, length, drop, Ok, is_some, slice_set, if◌then◌else◌}
 use Rattle.std.specs.List.{list_all}
 use Rattle.qm_frac.specs.Checked.{Checked}
 use Rattle.qm_model.specs.declared.row.Row.{Row}
@@ -13,7 +13,7 @@ use Rattle.qm_trees.specs.declared.rule.Rule.TheVariants as rule
 use Rattle.qm_trees.specs.declared.refutation.Refute.{Refute, out-Refute}
 use Rattle.qm_trees.specs.declared.refutation.Refute.TheOpen as node
 use Rattle.qm_trees.specs.declared.refutation.RefutePart.{RefutePart, out-RefutePart}
-use Rattle.qm_trees.specs.Entries.{Combination, row_named, weighted_rows}
+use Rattle.qm_trees.specs.Entries.{Combination, all_positive, row_named, weighted_rows}
 use Rattle.qm_trees.specs.Closing.{closing}
 use Rattle.qm_trees.specs.Verdicts.{Verdict, Broken, line, ◌then◌}
 use Rattle.qm_trees.specs.Ranges.{range_at, single, is_in, counts_right, judge_each}
@@ -39,10 +39,10 @@ below_of part = (out-RefutePart part).below
 abbrev pub all_named : Problem → List Row → List Entry → Bool
 all_named P cuts es = list_all (λ e. is_some (row_named P cuts e.row)) es
 
--- the rows are there, and then the combination closes
+-- multipliers are above 0 and the rows are there, and then the combination closes
 abbrev pub closes_here : Problem → List Row → List Range → Goal → Combination → Checked Bool
 closes_here P cuts bx G combo =
-    if all_named P cuts combo.entries then closing P combo.objective (weighted_rows P cuts combo.entries) bx G else Ok false
+    if all_positive combo.entries && all_named P cuts combo.entries then closing P combo.objective (weighted_rows P cuts combo.entries) bx G else Ok false
 
 -- where all whole variables are set
 abbrev pub judge_end : Problem → List Row → Goal → List Range → Layer → Verdict

@@ -6,20 +6,26 @@
 mod combination;
 mod combination_laws;
 mod empty;
+mod empty_laws;
 mod policy;
 mod policy_laws;
 mod refutation;
+mod refutation_laws;
+mod refutation_sound;
 mod rule;
 
 pub use combination::{Combo, ComboValue, Entry};
 pub use combination_laws::{
-    closing_closes_harder_goals, closing_is_exact, combination_values_are_exact,
-    combinations_are_sound, rows_hold_over_one_denominator,
+    closed_goals_are_out_of_reach, closing_closes_harder_goals, closing_is_exact,
+    combination_values_are_exact, combinations_are_sound, rows_hold_over_one_denominator,
 };
 pub use empty::{Empty, EmptyPart};
+pub use empty_laws::fine_empty_trees_are_right;
 pub use policy::{Below, Policy, PolicyPart};
 pub use policy_laws::{
     fine_policies_are_right, right_policies_are_right_at_less, right_policies_win, yes_means_fine,
 };
 pub use refutation::{Refute, RefutePart};
+pub use refutation_laws::{fine_refutations_are_right, right_refutations_refute_harder_goals};
+pub use refutation_sound::right_refutations_refuse;
 pub use rule::Rule;

@@ -9,7 +9,7 @@ ghost use Rattle.qm_model.specs.Plays.{IsPlay, whole_vars};
 ghost use Rattle.qm_model.specs.Sound.{IsSound};
 ghost use Rattle.qm_model.specs.Wins.{Wins};
 ghost use Rattle.qm_trees.specs.declared.policy.Policy.{Policy};
-ghost use Rattle.qm_trees.specs.Passing.{HasProperLeaves, IsFine};
+ghost use Rattle.qm_trees.specs.Passing.{IsFine};
 ghost use Rattle.qm_trees.specs.PolicyJudgement.{judge_policy};
 ghost use Rattle.qm_trees.specs.PolicyRight.{IsPolicyInRange, IsRightPolicy};
 ghost use Rattle.qm_trees.specs.Reaching.{PolicyReaches};
@@ -22,7 +22,7 @@ pub fn yes_means_fine()
 
 /// All lines of a policy are right exactly where the policy is right and no operation leaves.
 pub fn fine_policies_are_right()
-    ensures { (P : Problem) (v : Fraction) (xs : List Var) (depth : ℕ) (bx : List Range) (policy : Policy) → pos 1 ≤ℤ P.scale → HasPositiveDen v → HasProperLeaves xs policy → IsFine (judge_policy P v xs depth bx policy) ↔ (IsRightPolicy P v xs depth bx policy × IsPolicyInRange P v xs depth bx policy) }
+    ensures { (P : Problem) (v : Fraction) (xs : List Var) (depth : ℕ) (bx : List Range) (policy : Policy) → pos 1 ≤ℤ P.scale → HasPositiveDen v → IsFine (judge_policy P v xs depth bx policy) ↔ (IsRightPolicy P v xs depth bx policy × IsPolicyInRange P v xs depth bx policy) }
 {}
 
 /// A right policy is right at each value that is no greater; and whether an operation leaves doesn't depend on the
@@ -35,6 +35,6 @@ pub fn right_policies_are_right_at_less()
 /// A policy that is right over the whole box reaches its value on every universal play, and so the existential player
 /// wins that value.
 pub fn right_policies_win()
-    ensures reaches { (P : Problem) (v : Fraction) (policy : Policy) (us : List ℤ) → IsSound P → HasProperLeaves (whole_vars P) policy → IsRightPolicy P v (whole_vars P) 0 (whole_box_of P.vars) policy → IsPlay P us → PolicyReaches P v (whole_vars P) [] us policy }
-    ensures wins { (P : Problem) (v : Fraction) (policy : Policy) → IsSound P → HasProperLeaves (whole_vars P) policy → IsRightPolicy P v (whole_vars P) 0 (whole_box_of P.vars) policy → Wins P [] (AtLeast v) }
+    ensures reaches { (P : Problem) (v : Fraction) (policy : Policy) (us : List ℤ) → IsSound P → IsRightPolicy P v (whole_vars P) 0 (whole_box_of P.vars) policy → IsPlay P us → PolicyReaches P v (whole_vars P) [] us policy }
+    ensures wins { (P : Problem) (v : Fraction) (policy : Policy) → IsSound P → IsRightPolicy P v (whole_vars P) 0 (whole_box_of P.vars) policy → Wins P [] (AtLeast v) }
 {}

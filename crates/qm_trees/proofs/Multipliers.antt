@@ -1,0 +1,62 @@
+-- Multipliers above 0: what they say of the rows that they weigh, and the tests of entries.
+use Rattle.std.proofs.Common.{◌≡◌, ◌*ℤ◌, List, [], ◌∷◌, All, Option, Some, None, pos, refl, true}
+use Rattle.std.specs.Prelude.{◌↔◌, nat_lt, is_some, IsSome}
+use Rattle.std.specs.Bool.{Decides}
+use Rattle.std.specs.List.{cons_option}
+use Rattle.std.specs.Option.{option_map}
+use Rattle.std.proofs.lemmas.Bool.Decides.{Decides-and, Decides-ltb, Decides-by_and}
+use Rattle.std.proofs.lemmas.List.Elements.{All-cons, All-nil, All-head, All-tail}
+use Rattle.qm_math.specs.Fraction.{Fraction, HasPositiveDen, whole, IsAtMost, IsBelow, is_below}
+use Rattle.qm_math.proofs.Compare.{below_at_most_weak}
+use Rattle.qm_model.specs.declared.row.Row.{Row}
+use Rattle.qm_model.specs.declared.game.Problem.{Problem}
+use Rattle.qm_trees.specs.declared.combination.Entry.{Entry}
+use Rattle.qm_trees.specs.Entries.{AreEntries, IsPositive, is_positive, all_positive, row_named, Weighted, with_row, weighted_rows}
+use Rattle.qm_trees.specs.RefuteJudgement.{all_named}
+use Rattle.qm_trees.specs.RefuteRight.{AreNamed}
+use Rattle.qm_trees.proofs.Lines.{lt_of_test, test_of_lt}
+
+-- ---- what holds of each multiplier holds of those of the weighted rows
+
+put : (Q : Fraction → Type 0) (by : Fraction) (o : Option Row) (ws : List Weighted) → Q by → All (λ (w : Weighted). Q w.by) ws → All (λ (w : Weighted). Q w.by) (cons_option (option_map (with_row by) o) ws)
+put Q by None ws h others = others
+put Q by (Some row) ws h others = All-cons (λ (w : Weighted). Q w.by) (with_row by row) ws h others
+
+weighted_each : (P : Problem) (cuts : List Row) (Q : Fraction → Type 0) (es : List Entry) → ((e : Entry) → IsPositive e → Q e.by) → All IsPositive es → All (λ (w : Weighted). Q w.by) (weighted_rows P cuts es)
+weighted_each P cuts Q [] says h = All-nil (λ (w : Weighted). Q w.by)
+weighted_each P cuts Q (e ∷ es) says h =
+    put Q e.by (row_named P cuts e.row) (weighted_rows P cuts es) (says e (All-head IsPositive e es h)) (weighted_each P cuts Q es says (All-tail IsPositive e es h))
+
+pub weighted_dens : (P : Problem) (cuts : List Row) (es : List Entry) → All IsPositive es → All (λ (w : Weighted). HasPositiveDen w.by) (weighted_rows P cuts es)
+weighted_dens P cuts es h = weighted_each P cuts HasPositiveDen es (λ e positive. positive.0) h
+
+pub weighted_not_negative : (P : Problem) (cuts : List Row) (es : List Entry) → All IsPositive es → All (λ (w : Weighted). IsAtMost (whole (pos 0)) w.by) (weighted_rows P cuts es)
+weighted_not_negative P cuts es h = weighted_each P cuts (IsAtMost (whole (pos 0))) es (λ e positive. below_at_most_weak (whole (pos 0)) e.by positive.1) h
+
+-- ---- the tests of entries
+
+below_says : (a b : Fraction) → Decides (is_below a b) (IsBelow a b)
+below_says a b = (lt_of_test (a.num *ℤ pos b.den) (b.num *ℤ pos a.den), test_of_lt (a.num *ℤ pos b.den) (b.num *ℤ pos a.den))
+
+positive_says : (e : Entry) → Decides (is_positive e) (IsPositive e)
+positive_says e = Decides-and (nat_lt 0 e.by.den) (is_below (whole (pos 0)) e.by) (Decides-ltb 0 e.by.den) (below_says (whole (pos 0)) e.by)
+
+pub all_positive-says : (es : List Entry) → (all_positive es ≡ true) ↔ All IsPositive es
+all_positive-says es = Decides-by_and is_positive IsPositive all_positive positive_says refl (λ _ _. refl) es
+
+pub all_named-says : (P : Problem) (cuts : List Row) (es : List Entry) → (all_named P cuts es ≡ true) ↔ AreNamed P cuts es
+all_named-says P cuts es =
+    Decides-by_and (λ (e : Entry). is_some (row_named P cuts e.row)) (λ (e : Entry). IsSome (row_named P cuts e.row)) (all_named P cuts) (λ e. (λ h. h, λ h. h)) refl (λ _ _. refl) es
+
+-- ---- the entries of a combination
+
+each_positive : (e : Entry) (es : List Entry) → AreEntries (e ∷ es) → All IsPositive (e ∷ es)
+each_positive e [] h = All-cons IsPositive e [] h (All-nil IsPositive)
+each_positive e (f ∷ es) h = All-cons IsPositive e (f ∷ es) h.0 (each_positive f es h.2)
+
+pub entries_positive : (es : List Entry) → AreEntries es → All IsPositive es
+entries_positive [] h = All-nil IsPositive
+entries_positive (e ∷ es) h = each_positive e es h
+
+pub entries_all_positive : (es : List Entry) → AreEntries es → all_positive es ≡ true
+entries_all_positive es h = (all_positive-says es).1 (entries_positive es h)
