@@ -1,13 +1,8 @@
 -- Single steps of the test.
-use Rattle.std.specs.Prelude.{Bool, false, Ok, if◌then◌else◌}
 use Rattle.qm_math.specs.Fraction.{Fraction, whole}
 use Rattle.qm_frac.specs.Checked.{Checked, and_then, added, multiplied, divided}
 use Rattle.qm_model.specs.declared.row.Term.{Term}
 use Rattle.qm_model.specs.declared.game.Problem.{Problem}
-
--- the first test that answers no or leaves decides
-abbrev pub first_of : Checked Bool → Checked Bool → Checked Bool
-first_of x y = and_then x (λ holds. if holds then y else Ok false)
 
 -- to the sum so far, the coefficient times its value is added
 abbrev pub add_term : (Term → Fraction) → Term → Fraction → Checked Fraction

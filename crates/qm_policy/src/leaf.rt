@@ -1,5 +1,5 @@
-ghost use Rattle.std.specs.Prelude.{◌≡◌, ◌+◌, ◌^◌, ◌<◌, ◌≤◌, ◌&&◌, All, length, true, unsigned_abs, Ok};
-ghost use Rattle.qm_math.specs.Fraction.{HasPositiveDen, is_at_most, whole};
+ghost use Rattle.std.specs.Prelude.{◌≡◌, ◌+◌, ◌^◌, ◌<◌, ◌≤◌, ◌&&◌, All, length, nat_lt, unsigned_abs};
+ghost use Rattle.qm_math.specs.Fraction.{is_at_most, whole};
 ghost use Rattle.qm_model.specs.Linear.{HasVarsBelow};
 ghost use Rattle.qm_model.specs.Sound.{IsSound};
 ghost use Rattle.qm_trees.specs.Evaluation.{zero};
@@ -13,10 +13,9 @@ use crate::sides::{Side, term_value};
 use qm_frac::{Frac, Leaves};
 use qm_game::{Problem, Range, Row, Term, Var};
 
-/// Whether the value lies within the variable's bounds. Each fraction of the program has a positive denominator.
+/// Whether the value lies within the variable's bounds.
 fn is_within(value: Frac, var: &Var) -> bool
-    ensures answer { result ≡ (is_at_most (whole var.now.low) value && is_at_most value (whole var.now.high)) }
-    ensures positive { HasPositiveDen value }
+    ensures { result ≡ (nat_lt 0 value.den && is_at_most (whole var.now.low) value && is_at_most value (whole var.now.high)) }
 {
     let _positive = value.den();
     at_most(Frac::whole(var.low), value) && at_most(value, Frac::whole(var.high))
@@ -25,8 +24,7 @@ fn is_within(value: Frac, var: &Var) -> bool
 /// Whether each value lies within its variable's bounds.
 fn in_bounds(vars: &[Var], point: &[Frac]) -> bool
     requires { length vars.now ≡ length point.now }
-    ensures answer { result ≡ are_in_bounds vars.now point.now }
-    ensures positive { result ≡ true → All HasPositiveDen point.now }
+    ensures { result ≡ are_in_bounds vars.now point.now }
 {
     for (at, var) in vars.iter().enumerate() {
         if !is_within(point[at], var) {
@@ -133,8 +131,7 @@ fn objective_reaches(
 fn bounds_hold(problem: &Problem, point: &[Frac]) -> bool
     requires wholes { problem.now.wholes ≤ length problem.now.vars }
     requires point { length problem.now.vars ≡ problem.now.wholes + length point.now }
-    ensures answer { result ≡ are_in_bounds (continuous_vars problem.now) point.now }
-    ensures positive { result ≡ true → All HasPositiveDen point.now }
+    ensures { result ≡ are_in_bounds (continuous_vars problem.now) point.now }
 {
     in_bounds(&problem.vars.as_slice()[problem.wholes as usize..], point)
 }
@@ -155,8 +152,7 @@ pub fn passes(problem: &Problem, bx: &[Range], point: &[Frac], value: Frac) -> R
     requires sound { IsSound problem.now }
     requires ranges { length bx.now ≡ length problem.now.vars }
     requires point { length bx.now ≡ problem.now.wholes + length point.now }
-    ensures answer { result ≡ leaf_passes problem.now value bx.now point.now }
-    ensures positive { result ≡ Ok true → All HasPositiveDen point.now }
+    ensures { result ≡ leaf_passes problem.now value bx.now point.now }
 {
     if !bounds_hold(problem, point) {
         return Ok(false);

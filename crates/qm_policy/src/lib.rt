@@ -2,7 +2,6 @@
 //! text, with each range that is narrowed put back.
 #![tactic(auto)]
 
-mod cover;
 mod fractions;
 mod leaf;
 mod sides;

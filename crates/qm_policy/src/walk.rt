@@ -1,22 +1,23 @@
-ghost use Rattle.std.specs.Prelude.{◌≡◌, ◌+◌, ◌<◌, [], All, length, slice_set, true, Ok};
-ghost use Rattle.qm_trees.specs.Passing.{HasProperEnd, HasProperLeaves};
+ghost use Rattle.std.specs.Prelude.{◌≡◌, ◌+◌, ◌<◌, [], length, slice_set, true, Ok};
 ghost use Rattle.qm_model.specs.Boxes.{IsBox, whole_box_of};
 ghost use Rattle.qm_model.specs.Goals.{AtLeast};
 ghost use Rattle.qm_model.specs.Wins.{Wins};
 ghost use Rattle.qm_trees.specs.PolicyRight.{IsRightPolicy};
-ghost use Rattle.qm_model.specs.Plays.{is_universal, whole_vars};
+ghost use Rattle.qm_model.specs.Plays.{whole_vars};
 ghost use Rattle.qm_trees.specs.declared.policy.Policy.{out-Policy};
 ghost use Rattle.qm_trees.specs.declared.policy.Below.TheOpen as node;
 ghost use Rattle.qm_trees.specs.Verdicts.{answer_of};
 ghost use Rattle.qm_trees.specs.Ranges.{judge_each, judge_parts, range_at};
 ghost use Rattle.qm_trees.specs.PolicyJudgement.{below_of, judge_end, judge_move, judge_policy, range_of};
-ghost use Rattle.qm_policy.specs.Places.{IsPlace};
-ghost use Rattle.qm_policy.specs.Steps.{first_of};
+ghost use Rattle.qm_cover.specs.Places.{IsPlace};
+ghost use Rattle.qm_cover.specs.Steps.{first_of};
 
-use crate::cover::{after, contains, count_is_right, follows, is_last, range_in, single, start};
 use crate::leaf::passes;
+use qm_cover::{
+    after, contains, count_is_right, follows, is_for_all, is_last, range_in, single, start,
+};
 use qm_frac::{Frac, Leaves};
-use qm_game::{Bx, Game, Player, Range, Var};
+use qm_game::{Bx, Game, Range, Var};
 use qm_trees::{Below, Policy, PolicyPart};
 
 /// Whether the policy reaches the value from each prefix in the box: each rule is met, in the order of the
@@ -25,7 +26,6 @@ use qm_trees::{Below, Policy, PolicyPart};
 pub fn test(game: &Game, bx: &mut Bx, value: &Frac, policy: &Policy) -> Result<bool, Leaves>
     requires { IsBox game.now.vars bx.old }
     ensures answer { result ≡ answer_of (judge_policy game.now value.now (whole_vars game.now) 0 bx.old policy.now) }
-    ensures proper { result ≡ Ok true → HasProperLeaves (whole_vars game.now) policy.now }
     ensures right { result ≡ Ok true → IsRightPolicy game.now value.now (whole_vars game.now) 0 bx.old policy.now }
     ensures wins { result ≡ Ok true → bx.old ≡ whole_box_of game.now.vars → Wins game.now [] (AtLeast value.now) }
     ensures same { bx.new ≡ bx.old }
@@ -48,7 +48,6 @@ fn test_from(
 ) -> Result<bool, Leaves>
     requires { IsPlace game.now rest.now depth bx.old }
     ensures answer { result ≡ answer_of (judge_policy game.now value rest.now depth bx.old policy.now) }
-    ensures proper { result ≡ Ok true → HasProperLeaves rest.now policy.now }
     ensures same { bx.new ≡ bx.old }
 {
     match rest.split_first() {
@@ -85,7 +84,6 @@ fn test_below(
     requires place { IsPlace game.now later.now (depth + 1) bx.old }
     requires depth { depth < length bx.old }
     ensures answer { result ≡ answer_of (judge_policy game.now value later.now (depth + 1) (slice_set bx.old depth range) policy.now) }
-    ensures proper { result ≡ Ok true → HasProperLeaves later.now policy.now }
     ensures same { bx.new ≡ bx.old }
 {
     let before = range_in(bx.as_slice(), depth);
@@ -109,7 +107,6 @@ fn test_part(
     requires place { IsPlace game.now later.now (depth + 1) bx.old }
     requires depth { depth < length bx.old }
     ensures answer { result ≡ first_of (Ok follows) (answer_of (judge_policy game.now value later.now (depth + 1) (slice_set bx.old depth (range_of part.now)) (below_of part.now))) }
-    ensures proper { result ≡ Ok true → HasProperLeaves later.now (below_of part.now) }
     ensures same { bx.new ≡ bx.old }
 {
     if !follows {
@@ -133,7 +130,6 @@ fn test_each(
     requires place { IsPlace game.now later.now (depth + 1) bx.old }
     requires depth { depth < length bx.old }
     ensures answer { result ≡ answer_of (judge_each range_of (λ part. judge_policy game.now value later.now (depth + 1) (slice_set bx.old depth (range_of part)) (below_of part)) covered.low covered.high parts.now) }
-    ensures proper { result ≡ Ok true → All (λ part. HasProperLeaves later.now (below_of part)) parts.now }
     ensures same { bx.new ≡ bx.old }
 {
     let mut next = start(covered);
@@ -160,7 +156,6 @@ fn test_parts(
     requires place { IsPlace game.now later.now (depth + 1) bx.old }
     requires depth { depth < length bx.old }
     ensures answer { result ≡ answer_of (judge_parts range_of (λ part. judge_policy game.now value later.now (depth + 1) (slice_set bx.old depth (range_of part)) (below_of part)) (range_at bx.old depth) parts.now) }
-    ensures proper { result ≡ Ok true → All (λ part. HasProperLeaves later.now (below_of part)) parts.now }
     ensures same { bx.new ≡ bx.old }
 {
     let covered = range_in(bx.as_slice(), depth);
@@ -184,7 +179,6 @@ fn test_answer(
     requires place { IsPlace game.now later.now (depth + 1) bx.old }
     requires depth { depth < length bx.old }
     ensures answer { result ≡ answer_of (judge_move var.now depth (judge_policy game.now value later.now (depth + 1)) bx.old (node.Answer parts.now)) }
-    ensures proper { result ≡ Ok true → All (λ part. HasProperLeaves later.now (below_of part)) parts.now }
     ensures same { bx.new ≡ bx.old }
 {
     if !is_for_all(var) {
@@ -193,18 +187,10 @@ fn test_answer(
     test_parts(game, later, depth, bx, value, parts)
 }
 
-/// Whether the universal player sets the variable.
-fn is_for_all(var: &Var) -> bool
-    ensures { result ≡ is_universal var.now }
-{
-    var.player == Player::All
-}
-
 /// Whether the policy is a leaf with a value for each continuous variable, and passes.
 fn test_end(game: &Game, bx: &Bx, value: Frac, policy: &Policy) -> Result<bool, Leaves>
     requires { length bx.now ≡ length game.now.vars }
-    ensures answer { result ≡ answer_of (judge_end game.now value bx.now (out-Policy policy.now)) }
-    ensures proper { result ≡ Ok true → HasProperEnd (out-Policy policy.now) }
+    ensures { result ≡ answer_of (judge_end game.now value bx.now (out-Policy policy.now)) }
 {
     match policy {
         Policy::Leaf { point } => {

@@ -1,4 +1,4 @@
-use Rattle.std.proofs.Common.{rules, ◌≡◌, ◌+◌, length, arith, ap, ◌∙◌, List, slice_set, subst, Ok, Err}
+use Rattle.std.proofs.Common.{rules, ◌≡◌, ◌+◌, length, arith, ap, ◌∙◌, List, slice_set, Err}
 use Rattle.qm_model.specs.declared.range.Range.{Range}
 use Rattle.qm_trees.specs.declared.policy.PolicyPart.{PolicyPart}
 use Rattle.qm_trees.specs.Verdicts.{answer_of}
@@ -6,11 +6,10 @@ use Rattle.qm_trees.specs.Ranges.{judge_each}
 use Rattle.std.proofs.lemmas.Int.{to_z-of_z}
 use mir.Syntax.{w128}
 use mir.Val.{SFits}
-use Rattle.std.proofs.lemmas.List.Elements.{All-more}
-use Rattle.qm_trees.specs.Passing.{HasProperLeaves}
 use Rattle.qm_trees.specs.PolicyJudgement.{below_of, judge_policy, range_of}
-use Rattle.qm_policy.proofs.Places.{next_place, put_back}
-use Rattle.qm_policy.proofs.Steps.{answer_move, proper_move, step_is, part_leaves, part_fails, part_passes}
+use Rattle.qm_cover.proofs.Places.{next_place, put_back}
+use Rattle.qm_cover.proofs.PartSteps.{step_is, part_leaves, part_fails, part_passes}
+use Rattle.qm_policy.proofs.Steps.{answer_move}
 use Rattle.qm_policy.proofs.walk.+test.Goals as goal
 
 pub test_from-test_below-requires : goal.test_from-test_below-requires
@@ -35,11 +34,6 @@ test_from-returns-in-Answer-clause-answer t c =
     c.test_answer.ensures.answer
     ∙ answer_move c.args.game.now c.args.value c.args.rest.now c.in-Some.var.now c.in-Some.later.now c.args.depth c.args.bx.now c.args.policy.now c.in-Answer.parts _
     c.in-Some.ensures.cases.0 c.in-Answer.is c.as_slice-in-Answer.ensures
-
-pub test_from-returns-in-Answer-clause-proper : goal.test_from-returns-in-Answer-clause-proper
-test_from-returns-in-Answer-clause-proper t c =
-    λ yes. proper_move c.args.rest.now c.in-Some.var.now c.in-Some.later.now c.args.policy.now c.in-Answer.parts _
-    c.in-Some.ensures.cases.0 c.in-Answer.is c.as_slice-in-Answer.ensures (c.test_answer.ensures.proper yes)
 
 pub test_each-returns-in_err-test_part-clause-answer : goal.test_each-returns-in_err-test_part-clause-answer
 test_each-returns-in_err-test_part-clause-answer t c =
@@ -71,7 +65,5 @@ test_each-loop-at-preserved t c =
     let fits : SFits w128 c.after-next.result = search rules in
     rw (to_z-of_z w128 c.after-next.result fits, c.after-next.ensures) (record {
       same = c.test_part.ensures.same ∙ c.loop-at.invariant.same;
-      proper = All-more (λ p. HasProperLeaves c.args.later.now (below_of p)) c.args.parts.now c.loop-at.at part c.loop-at-test.true c.loop-at.invariant.proper
-          (subst (λ p. HasProperLeaves c.args.later.now (below_of p)) c.index-parts-at.is (c.in_ok-test_part.ensures.proper (ap (λ b. Ok b) c.if-not-branch.false)));
       rest = rest;
     })

@@ -1,7 +1,6 @@
-use Rattle.std.proofs.Common.{◌≡◌, ◌+◌, ◌*◌, length, drop, take, slice_set, All}
+use Rattle.std.proofs.Common.{◌≡◌, ◌+◌, ◌*◌, length, drop, slice_set}
 use Rattle.qm_trees.specs.Verdicts.{answer_of}
 use Rattle.qm_trees.specs.Ranges.{judge_each}
-use Rattle.qm_trees.specs.Passing.{HasProperLeaves}
 use Rattle.qm_trees.specs.PolicyJudgement.{below_of, judge_policy, range_of}
 use Rattle.qm_policy.proofs.walk.+test.Given as goal
 
@@ -26,7 +25,6 @@ decreases-test_answer l = 6 * length l.later.now + 5
 abbrev pub invariant-test_each-loop-at : goal.invariant-test_each-loop-at
 invariant-test_each-loop-at l = record {
   same : l.bx ≡ l.fn.bx;
-  proper : All (λ part. HasProperLeaves l.later (below_of part)) (take l.at l.parts);
   rest : answer_of (judge_each range_of (λ part. judge_policy l.game l.value l.later (l.depth + 1) (slice_set l.fn.bx l.depth (range_of part)) (below_of part)) l.next l.covered.high (drop l.at l.parts))
       ≡ answer_of (judge_each range_of (λ part. judge_policy l.game l.value l.later (l.depth + 1) (slice_set l.fn.bx l.depth (range_of part)) (below_of part)) l.covered.low l.covered.high l.parts);
 }

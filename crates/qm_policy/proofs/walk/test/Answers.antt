@@ -19,7 +19,7 @@ returns-clause-right c =
     let scale = rw c.problem-problem.ensures.value at c.problem-problem.ensures.sound.scale_positive in
     let judged = judge_policy c.args.game.now c.args.value.now (whole_vars c.args.game.now) 0 c.args.bx.now c.args.policy.now in
     λ yes. (right_of_fine c.args.game.now c.args.value.now scale c.den-positive.ensures.terms.positive (whole_vars c.args.game.now) 0 c.args.bx.now c.args.policy.now
-    (walked.proper yes) (fine_of_answer judged (sym walked.answer ∙ yes))).0
+    (fine_of_answer judged (sym walked.answer ∙ yes))).0
 
 pub returns-clause-wins : goal.returns-clause-wins
 returns-clause-wins c =
@@ -28,6 +28,6 @@ returns-clause-wins c =
     let judged = judge_policy c.args.game.now c.args.value.now (whole_vars c.args.game.now) 0 c.args.bx.now c.args.policy.now in
     λ yes whole.
     let right = (right_of_fine c.args.game.now c.args.value.now sound.scale_positive c.den-positive.ensures.terms.positive (whole_vars c.args.game.now) 0 c.args.bx.now c.args.policy.now
-    (walked.proper yes) (fine_of_answer judged (sym walked.answer ∙ yes))).0 in
-    right_wins c.args.game.now sound c.args.value.now c.args.policy.now (walked.proper yes)
+    (fine_of_answer judged (sym walked.answer ∙ yes))).0 in
+    right_wins c.args.game.now sound c.args.value.now c.args.policy.now
     (subst (λ bx. IsRightPolicy c.args.game.now c.args.value.now (whole_vars c.args.game.now) 0 bx c.args.policy.now) whole right)

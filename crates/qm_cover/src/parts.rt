@@ -1,34 +1,8 @@
-ghost use Rattle.std.specs.Prelude.{◌≡◌, ◌+◌, ◌<◌, ◌+ℤ◌, ◌&&◌, int_le, pos, drop, length};
+ghost use Rattle.std.specs.Prelude.{◌≡◌, ◌+◌, ◌<◌, ◌&&◌, int_le, drop, length};
 ghost use Rattle.std.specs.Ordering.{int_eq};
-ghost use Rattle.qm_trees.specs.Ranges.{counts_right, follows_on, is_in, is_last_before, range_at, same, single};
+ghost use Rattle.qm_trees.specs.Ranges.{counts_right, follows_on, is_last_before, same};
 
-use qm_game::Range;
-use qm_trees::PolicyPart;
-
-/// The range of the variable at this place.
-pub fn range_in(bx: &[Range], at: usize) -> Range
-    requires { at < length bx.now }
-    ensures { result ≡ range_at bx.now at }
-{
-    bx[at]
-}
-
-/// The range of this value alone.
-pub fn single(value: i64) -> Range
-    ensures { result ≡ single value }
-{
-    Range {
-        low: value,
-        high: value,
-    }
-}
-
-/// Whether the range has the value.
-pub fn contains(range: Range, value: i64) -> bool
-    ensures { result ≡ is_in range value }
-{
-    range.low <= value && value <= range.high
-}
+use qm_model::Range;
 
 /// Whether there are no parts exactly where the covered range is empty.
 pub fn count_is_right(covered: Range, count: usize) -> bool
@@ -38,7 +12,7 @@ pub fn count_is_right(covered: Range, count: usize) -> bool
 }
 
 /// Whether no part follows the one at this place.
-pub fn is_last(parts: &[PolicyPart], at: usize) -> bool
+pub fn is_last<T>(parts: &[T], at: usize) -> bool
     requires { at < length parts.now }
     ensures { result ≡ is_last_before (drop (at + 1) parts.now) }
 {
@@ -70,18 +44,4 @@ pub fn follows(next: i128, covered: Range, is_last: bool, range: Range) -> bool
     ensures { result ≡ follows_on next covered.high is_last range }
 {
     begins(next, range) && ends(covered, is_last, range)
-}
-
-/// The low end.
-pub fn start(range: Range) -> i128
-    ensures { result ≡ range.low }
-{
-    i128::from(range.low)
-}
-
-/// The number after the range.
-pub fn after(range: Range) -> i128
-    ensures { result ≡ range.high +ℤ pos 1 }
-{
-    i128::from(range.high) + 1
 }
