@@ -1,5 +1,5 @@
 -- What ordered terms give a variable, and whole numbers as fractions of the program.
-use Rattle.std.proofs.Common.{◌≡◌, ◌≢◌, ◌∙◌, ℕ, zero, suc, ◌+◌, ◌<◌, ◌≤◌, ◌^◌, List, [], ◌∷◌, length, get_or, drop, arith, subst, ap, unsigned_abs, ℤ, pos, ◌+ℤ◌}
+use Rattle.std.proofs.Common.{◌≡◌, ◌∙◌, ℕ, zero, suc, ◌+◌, ◌<◌, ◌≤◌, ◌^◌, List, [], ◌∷◌, length, get_or, drop, arith, subst, ap, unsigned_abs, ℤ, pos, ◌+ℤ◌}
 use Rattle.std.specs.Prelude.{Option, Some, None, SomeIff}
 use Rattle.std.proofs.lemmas.Int.{ints}
 use Rattle.std.proofs.lemmas.Bool.Decides.{nat_tests}

@@ -1,10 +1,9 @@
 -- What a combination answers over a box with an empty range, and over one without.
-use Rattle.std.proofs.Common.{◌≡◌, ◌∙◌, refl, sym, Bool, true, false, List, arith, Ok, Err, ℤ, ◌<ℤ◌}
+use Rattle.std.proofs.Common.{◌≡◌, refl, Bool, true, false, List, arith, Ok, Err, ℤ, ◌<ℤ◌}
 use Rattle.std.specs.Prelude.{Any, int_lt}
 use Rattle.std.specs.List.{list_any}
 use Rattle.std.proofs.lemmas.Int.{ints}
 use Rattle.std.proofs.lemmas.List.Folds.{Any-from_list_any, list_any-from_Any}
-use Rattle.qm_frac.specs.Checked.{Checked}
 use Rattle.qm_frac.specs.declared.leaves.Leaves.{Leaves}
 use Rattle.qm_model.specs.declared.range.Range.{Range}
 use Rattle.qm_model.specs.declared.game.Problem.{Problem}

@@ -1,12 +1,8 @@
 -- The numbers of a problem that is in order are fractions of the program.
-use Rattle.std.proofs.Common.{◌≡◌, ◌∙◌, ℕ, zero, suc, ◌+◌, ◌*◌, ◌<◌, ◌≤◌, ◌^◌, Bool, true, false, List, [], ◌∷◌, All, length, get_or, arith, unsigned_abs, ℤ, pos, ◌+ℤ◌}
-use Rattle.std.specs.Prelude.{IsSome, IsSomeAnd, slice_get, if◌then◌else◌, ◌==◌, ◌≤ℤ◌}
-use Rattle.std.proofs.Math.Nat.{mul-le-mul_left}
+use Rattle.std.proofs.Common.{ℕ, zero, suc, ◌<◌, ◌^◌, List, [], ◌∷◌, All, get_or, arith, unsigned_abs, ℤ, pos}
+use Rattle.std.specs.Prelude.{IsSome, IsSomeAnd, slice_get, ◌≤ℤ◌}
 use Rattle.std.proofs.lemmas.Int.{ints}
 use Rattle.std.proofs.lemmas.List.Elements.{All-head, All-tail}
-use Rattle.std.proofs.lemmas.List.Sums.{sum_by-cons}
-use Rattle.qm_math.specs.Ranges.{reach}
-use Rattle.qm_model.specs.declared.row.Term.{Term}
 use Rattle.qm_model.specs.declared.row.Row.{Row}
 use Rattle.qm_model.specs.declared.row_id.RowId.{RowId}
 use Rattle.qm_model.specs.declared.row_id.RowId.TheVariants as id
@@ -14,34 +10,15 @@ use Rattle.qm_model.specs.declared.range.Range.{Range}
 use Rattle.qm_model.specs.declared.variable.Var.{Var}
 use Rattle.qm_model.specs.declared.game.Problem.{Problem}
 use Rattle.qm_model.specs.Boxes.{IsBox}
-use Rattle.qm_model.specs.Linear.{coefficient}
-use Rattle.qm_model.specs.Sizes.{reach_in_vars, terms_size}
+use Rattle.qm_model.specs.Sizes.{reach_in_vars}
 use Rattle.qm_model.specs.Sound.{IsRowOver, IsSound}
 use Rattle.qm_model.proofs.BoxLaws.{IsBox-length}
+use Rattle.qm_model.proofs.Sizes.{one_le_reach}
+use Rattle.qm_model.proofs.VariableSizes.{coefficient_size}
 use Rattle.qm_trees.specs.declared.combination.Entry.{Entry}
 use Rattle.qm_trees.specs.Entries.{row_named}
 use Rattle.qm_trees.specs.RefuteRight.{AreNamed}
-use Rattle.qm_combo.specs.Entries.{AreNarrow, HasNarrowRows, IsNarrow}
-
--- each variable reaches at least 1
-one_le_reach : (xs : List Var) (var : ℕ) → 1 ≤ reach_in_vars xs var
-one_le_reach [] var = omega arith
-one_le_reach (x ∷ xs) zero = omega arith
-one_le_reach (x ∷ xs) (suc var) = one_le_reach xs var
-
-one_more : (b : Bool) (k c : ℤ) (here rest : ℕ) → unsigned_abs k ≤ here → unsigned_abs c ≤ rest
-    → unsigned_abs (let z : ℤ = if b then k +ℤ c else c in z) ≤ here + rest
-one_more true k c here rest h g = omega (arith, ints)
-one_more false k c here rest h g = omega arith
-
--- no coefficient is greater than the size of the terms
-coefficient_size : (reach_of : ℕ → ℕ) → ((var : ℕ) → 1 ≤ reach_of var) → (ts : List Term) (var : ℕ) → unsigned_abs (coefficient ts var) ≤ terms_size reach_of ts
-coefficient_size reach_of some [] var = omega arith
-coefficient_size reach_of some (t ∷ ts) var =
-    let times = mul-le-mul_left (unsigned_abs t.coef) (some t.var) in
-    let here : unsigned_abs t.coef ≤ unsigned_abs t.coef * reach_of t.var = omega (arith, times) in
-    let both = one_more (t.var == var) t.coef (coefficient ts var) (unsigned_abs t.coef * reach_of t.var) (terms_size reach_of ts) here (coefficient_size reach_of some ts var) in
-    omega (arith, both, sum_by-cons (λ (u : Term). unsigned_abs u.coef * reach_of u.var) t ts)
+use Rattle.qm_combo.specs.Entries.{HasNarrowRows, IsNarrow}
 
 row_is_narrow : (xs : List Var) (row : Row) → IsRowOver xs row → IsNarrow row
 row_is_narrow xs row over = record {

@@ -76,7 +76,7 @@ fn less_objective(problem: &Problem, objective: bool, var: u32, sum: Frac) -> Re
 }
 
 /// The combination's coefficient of the variable.
-fn combined_coefficient(
+pub(crate) fn combined_coefficient(
     problem: &Problem,
     cuts: &[Row],
     objective: bool,
