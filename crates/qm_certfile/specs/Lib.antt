@@ -1,0 +1,6 @@
+pub mod Lines
+pub mod Styles
+pub mod TreeLines
+pub mod CertificateLines
+pub mod Passes
+pub mod Pieces

@@ -1,0 +1,16 @@
+//! Certificates: how a game ends, with a policy and a refutation that show it, and their text.
+#![tactic(auto)]
+
+mod certificate;
+mod endings;
+mod lines;
+mod trees;
+mod words;
+mod writer;
+
+pub use certificate::Certificate;
+pub use endings::a_passing_certificate_tells_the_ending;
+pub use writer::write;
+
+#[cfg(test)]
+mod tests;

@@ -1,0 +1,217 @@
+// Certificates of the problem "maximise x1 + 2 x3, where x1 + x2 + x3 <= 2", of three variables from 0 to 1, the second
+// of which the universal player sets. Its value is 2: choose 0, answer each value, choose 1. Nothing above 2 is reached:
+// over x1 = 0 the objective's bounds say so, and over x1 = 1 the universal player picks 1.
+ghost use Rattle.std.specs.Prelude.{◌≡◌, ◌∷◌, [], IfOk, pos, true};
+
+use super::*;
+use qm_frac::Frac;
+use qm_io::{List, Memory};
+use qm_model::{Game, Player, Problem, Range, Row, RowId, Sense, Term, Terms, Var};
+use qm_trees::{Below, Combo, Entry, Policy, PolicyPart, Refute, RefutePart};
+use smallvec::SmallVec;
+use sqlite_items::{Boxed, Items};
+use std::alloc::{AllocError, Global};
+use std::test::Fail;
+
+fn binary(alloc: Global, player: Player) -> Var
+    ensures { result ≡ record { name = []; player = player; whole = true; low = pos 0; high = pos 1 } }
+{
+    Var {
+        name: List::new(alloc),
+        player,
+        whole: true,
+        low: 0,
+        high: 1,
+    }
+}
+
+fn all_terms(alloc: Global) -> Result<Terms, Memory>
+    ensures { IfOk result (λ terms. terms ≡ record { var = 0; coef = pos 1 } ∷ record { var = 1; coef = pos 1 } ∷ record { var = 2; coef = pos 1 } ∷ []) }
+{
+    let mut terms = SmallVec::new(alloc);
+    terms.push(Term { var: 0, coef: 1 })?;
+    terms.push(Term { var: 1, coef: 1 })?;
+    terms.push(Term { var: 2, coef: 1 })?;
+    Ok(Terms::new(terms))
+}
+
+fn objective(alloc: Global) -> Result<Terms, Memory>
+    ensures { IfOk result (λ terms. terms ≡ record { var = 0; coef = pos 1 } ∷ record { var = 2; coef = pos 2 } ∷ []) }
+{
+    let mut terms = SmallVec::new(alloc);
+    terms.push(Term { var: 0, coef: 1 })?;
+    terms.push(Term { var: 2, coef: 2 })?;
+    Ok(Terms::new(terms))
+}
+
+fn game(alloc: Global, sense: Sense) -> Result<Game, Memory> {
+    let mut vars = List::new(alloc);
+    vars.push(binary(alloc, Player::Exists))?;
+    vars.push(binary(alloc, Player::All))?;
+    vars.push(binary(alloc, Player::Exists))?;
+    let mut rows = List::new(alloc);
+    rows.push(Row {
+        terms: all_terms(alloc)?,
+        right: 2,
+    })?;
+    Ok(Game::new(Problem {
+        sense,
+        vars,
+        wholes: 3,
+        rows,
+        urows: List::new(alloc),
+        terms: objective(alloc)?,
+        constant: 0,
+        scale: 1,
+    }))
+}
+
+fn legal(alloc: Global, value: i64) -> Result<List<i64>, Memory> {
+    let mut values = List::new(alloc);
+    values.push(value)?;
+    Ok(values)
+}
+
+fn choose(alloc: Global, value: i64, below: Policy) -> Result<Policy, AllocError> {
+    Ok(Policy::Choose {
+        value,
+        below: Boxed::new(alloc, below)?,
+    })
+}
+
+fn leaf(alloc: Global) -> Policy {
+    Policy::Leaf {
+        point: List::new(alloc),
+    }
+}
+
+// Chooses 0, answers each value, and chooses 1.
+fn policy(alloc: Global) -> Result<Policy, AllocError> {
+    let mut parts = Items::new(alloc);
+    parts.push(PolicyPart {
+        range: Range { low: 0, high: 1 },
+        below: Below::On(choose(alloc, 1, leaf(alloc))?),
+    })?;
+    choose(alloc, 0, Policy::Answer { parts })
+}
+
+// Closes by the objective and the row with the multiplier 2.
+fn close_by_row(alloc: Global) -> Result<Refute, Memory> {
+    let mut combo = Combo::new(alloc, true);
+    combo.push(Entry {
+        row: RowId::Row(0),
+        by: Frac::whole(2),
+    })?;
+    Ok(Refute::Close(combo))
+}
+
+// Closes by a row of each kind, without the objective.
+fn close_by_three(alloc: Global) -> Result<Refute, Memory> {
+    let mut combo = Combo::new(alloc, false);
+    combo.push(Entry {
+        row: RowId::Row(9),
+        by: Frac::whole(5),
+    })?;
+    combo.push(Entry {
+        row: RowId::Uncertain(0),
+        by: Frac::whole(1),
+    })?;
+    combo.push(Entry {
+        row: RowId::Cut(1),
+        by: Frac::whole(3),
+    })?;
+    Ok(Refute::Close(combo))
+}
+
+fn pick(
+    alloc: Global,
+    value: i64,
+    completion: List<i64>,
+    below: Refute,
+) -> Result<Refute, AllocError> {
+    Ok(Refute::Pick {
+        value,
+        completion,
+        below: Boxed::new(alloc, below)?,
+    })
+}
+
+fn single(value: i64) -> Range {
+    Range {
+        low: value,
+        high: value,
+    }
+}
+
+// Over 0 the objective closes by itself, and over 1 the universal player picks 1.
+fn refute(alloc: Global) -> Result<Refute, Memory> {
+    let mut parts = Items::new(alloc);
+    parts.push(RefutePart {
+        range: single(0),
+        below: Refute::Close(Combo::new(alloc, true)),
+    })?;
+    parts.push(RefutePart {
+        range: single(1),
+        below: pick(alloc, 1, List::new(alloc), close_by_row(alloc)?)?,
+    })?;
+    Ok(Refute::Over { parts })
+}
+
+fn third() -> Frac {
+    match Frac::of(1, 3) {
+        Some(value) => value,
+        None => Frac::whole(0),
+    }
+}
+
+#[test]
+fn an_optimal_certificate(rt: HostRuntime) -> Result<(), Fail> {
+    let game = game(rt.alloc(), Sense::Max)?;
+    let certificate = Certificate::Optimal {
+        value: Frac::whole(2),
+        legal: legal(rt.alloc(), 0)?,
+        policy: policy(rt.alloc())?,
+        refute: refute(rt.alloc())?,
+    };
+    let text = write(rt.alloc(), &game, &certificate)?;
+    let lines =
+        b"optimal 2\ncertificate 1\nlegal 0\npolicy\nchoose 0\nanswer 1\nrange 0 1\nchoose 1\nleaf\nrefute\nover 2\nrange 0 0\nclose o\nrange 1 1\npick 1\nclose o r1=2\nend\n";
+    assert_eq!(rt; text.as_slice(), lines.as_slice());
+    Ok(())
+}
+
+// A minimised problem: the value is that of the file, and a fraction.
+#[test]
+fn a_negative_fraction(rt: HostRuntime) -> Result<(), Fail> {
+    let game = game(rt.alloc(), Sense::Min)?;
+    let mut point = List::new(rt.alloc());
+    point.push(third())?;
+    point.push(Frac::whole(-4))?;
+    let certificate = Certificate::Optimal {
+        value: third(),
+        legal: List::new(rt.alloc()),
+        policy: Policy::Leaf { point },
+        refute: close_by_row(rt.alloc())?,
+    };
+    let text = write(rt.alloc(), &game, &certificate)?;
+    let lines =
+        b"optimal -1/3\ncertificate 1\nlegal\npolicy\nleaf 1/3 -4\nrefute\nclose o r1=2\nend\n";
+    assert_eq!(rt; text.as_slice(), lines.as_slice());
+    Ok(())
+}
+
+#[test]
+fn an_infeasible_certificate(rt: HostRuntime) -> Result<(), Fail> {
+    let game = game(rt.alloc(), Sense::Max)?;
+    let mut completion = legal(rt.alloc(), -2)?;
+    completion.push(7)?;
+    let certificate = Certificate::Infeasible {
+        legal: legal(rt.alloc(), 1)?,
+        refute: pick(rt.alloc(), -1, completion, close_by_three(rt.alloc())?)?,
+    };
+    let text = write(rt.alloc(), &game, &certificate)?;
+    let lines =
+        b"infeasible\ncertificate 1\nlegal 1\nrefute\npick -1 -2 7\nclose r10=5 u1=1 c2=3\nend\n";
+    assert_eq!(rt; text.as_slice(), lines.as_slice());
+    Ok(())
+}
