@@ -1,0 +1,83 @@
+-- A dead row alone closes every goal, and no operation leaves.
+use Rattle.std.proofs.Common.{◌≡◌, ℕ, zero as none, suc, List, [], ◌∷◌, All, refl, sym, subst, ap, ◌∙◌, arith, pos, false, true, Ok, Option, Some, None}
+use Rattle.std.specs.Prelude.{IsSomeAnd, IsSome, slice_get}
+use Rattle.std.proofs.lemmas.List.Elements.{All-cons, All-nil, All-head, All-tail}
+use Rattle.std.proofs.lemmas.Int.{ints}
+use Rattle.qm_math.specs.Fraction.{whole}
+use Rattle.qm_model.specs.declared.range.Range.{Range}
+use Rattle.qm_model.specs.declared.row.Row.{Row}
+use Rattle.qm_model.specs.declared.row_id.RowId.{RowId}
+use Rattle.qm_model.specs.declared.row_id.RowId.TheVariants as id
+use Rattle.qm_model.specs.declared.game.Problem.{Problem}
+use Rattle.qm_model.specs.Boxes.{IsBox, IsDead}
+use Rattle.qm_model.specs.Goals.{Goal, IsProper}
+use Rattle.qm_model.specs.Sound.{IsRowOver, IsSound}
+use Rattle.qm_game.specs.Dead.{IsFirstDead}
+use Rattle.qm_trees.specs.declared.combination.Entry.{Entry}
+use Rattle.qm_trees.specs.declared.refutation.Refute.{Refute, Close, out-Refute}
+use Rattle.qm_trees.specs.declared.refutation.Refute.TheVariants.{rolls-Close}
+use Rattle.qm_trees.specs.declared.refutation.Refute.TheViews.{out-roll-Refute}
+use Rattle.qm_trees.specs.declared.refutation.Refute.TheOpen as node
+use Rattle.qm_trees.specs.Entries.{Combination, IsPositive, row_named, weighted_rows}
+use Rattle.qm_trees.specs.Closing.{closing}
+use Rattle.qm_trees.specs.RefuteJudgement.{Layer}
+use Rattle.qm_trees.specs.RefuteRight.{AreNamed, IsRightClose, IsCloseInRange, IsRightEnd, IsEndInRange}
+use Rattle.qm_trees.proofs.CombinationCloses.{closing_exact}
+use Rattle.qm_trees.proofs.Multipliers.{weighted_dens}
+use Rattle.qm_trees.proofs.WholeValues.{dead_row_closes}
+use Rattle.qm_search.specs.Outcomes.{Refutes}
+use Rattle.qm_search.specs.Plain.{IsPlain}
+
+-- a refutation that closes at once
+pub closes_at_once : (combo : Combination) → out-Refute (Close combo) ≡ node.Close combo
+closes_at_once combo = ap out-Refute (sym (rolls-Close combo)) ∙ out-roll-Refute (node.Close combo)
+
+-- where all variables are set, a combination whose test answers yes refutes the goal
+pub refutes_by : (P : Problem) (depth : ℕ) (bx : List Range) (G : Goal) (combo : Combination) (tree : Refute)
+    → IsSound P → IsProper G → All IsPositive combo.entries → AreNamed P [] combo.entries
+    → closing P combo.objective (weighted_rows P [] combo.entries) bx G ≡ Ok true → tree ≡ Close combo → Refutes P [] depth bx G tree
+refutes_by P depth bx G combo tree sound proper positive named e is =
+    let closes = (closing_exact P combo.objective (weighted_rows P [] combo.entries) bx G (weighted_dens P [] combo.entries positive) sound.scale_positive proper).0 e in
+    let layer : node.Close combo ≡ out-Refute tree = sym (ap out-Refute is ∙ closes_at_once combo) in
+    let right : IsRightClose P [] G bx combo = (positive, named, closes.0) in
+    let fits : IsCloseInRange P [] G bx combo = closes.1 in
+    record {
+      right = subst (λ (l : Layer). IsRightEnd P [] G bx l) layer right;
+      in_range = subst (λ (l : Layer). IsEndInRange P [] G bx l) layer fits;
+    }
+
+-- the entry of a row with the multiplier 1
+abbrev pub once : RowId → Entry
+once row = record { row = row; by = whole (pos 1) }
+
+once_positive : (row : RowId) → IsPositive (once row)
+once_positive row = (omega arith, omega (arith, ints))
+
+-- an item that has one property, where all have another
+with_all : {X : Type 0} (D Q : X → Type 0) (xs : List X) (n : ℕ) → All Q xs → IsSomeAnd (slice_get xs n) D → IsSomeAnd (slice_get xs n) (λ x. D x × Q x)
+with_all D Q [] n all h = absurd h
+with_all D Q (x ∷ xs) none all h = (h, All-head Q x xs all)
+with_all D Q (x ∷ xs) (suc n) all h = with_all D Q xs n (All-tail Q x xs all) h
+
+module _ (P : Problem) (depth : ℕ) (bx : List Range) (sound : IsSound P) (box : IsBox P.vars bx) (G : Goal) (proper : IsProper G) where
+  -- a row that is there and is dead
+  abbrev IsDeadRow : Row → Type 0
+  IsDeadRow row = IsDead bx row × IsRowOver P.vars row
+
+  dead_refutes : (row : RowId) (tree : Refute) → (found : Option Row) → row_named P [] row ≡ found → IsSomeAnd found IsDeadRow
+      → tree ≡ Close (record { objective = false; entries = once row ∷ [] }) → Refutes P [] depth bx G tree
+  dead_refutes row tree None e h is = absurd h
+  dead_refutes row tree (Some r) e h is =
+      let positive = All-cons IsPositive (once row) [] (once_positive row) (All-nil IsPositive) in
+      let there : IsSome (row_named P [] row) = rw e refl in
+      let named = All-cons (λ (entry : Entry). IsSome (row_named P [] entry.row)) (once row) [] there (All-nil (λ (entry : Entry). IsSome (row_named P [] entry.row))) in
+      let yes : closing P false (weighted_rows P [] (once row ∷ [])) bx G ≡ Ok true = rw e (dead_row_closes P bx r G h.1 box h.0) in
+      refutes_by P depth bx G (record { objective = false; entries = once row ∷ [] }) tree sound proper positive named yes is
+
+  -- the first dead row alone refutes the goal
+  pub first_dead_refutes : (row : RowId) (tree : Refute) → IsPlain P → IsFirstDead P bx (Some row)
+      → tree ≡ Close (record { objective = false; entries = once row ∷ [] }) → Refutes P [] depth bx G tree
+  first_dead_refutes (id.Row n) tree plain first is =
+      dead_refutes (id.Row n) tree (slice_get P.rows n) refl (with_all (IsDead bx) (IsRowOver P.vars) P.rows n sound.rows first.has) is
+  first_dead_refutes (id.Uncertain n) tree plain first is = absurd (subst (λ (rows : List Row). IsSomeAnd (slice_get rows n) (IsDead bx)) plain.no_uncertainty first.1.has)
+  first_dead_refutes (id.Cut n) tree plain first is = absurd first

@@ -1,0 +1,9 @@
+-- Parts of one value each.
+use Rattle.std.specs.Prelude.{◌≡◌, ℤ, pos, ◌+ℤ◌, List, [], ◌∷◌}
+use Rattle.qm_model.specs.declared.range.Range.{Range}
+use Rattle.qm_trees.specs.Ranges.{single}
+
+-- the ranges of the values from `low` up to before `next`, in order
+abbrev pub AreSingles : ℤ → ℤ → List Range → Type 0
+AreSingles low next [] = low ≡ next
+AreSingles low next (r ∷ rs) = (r ≡ single low) × AreSingles (low +ℤ pos 1) next rs
