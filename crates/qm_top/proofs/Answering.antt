@@ -2,28 +2,31 @@
 use Rattle.std.proofs.Common.{◌≡◌, ◌⊎◌, ◌<◌, ◌-◌, ◌^◌, ◌≤◌, ℕ, ℤ, pos, List, ◌++◌, Option, Some, None, Result, Ok, Err, IfOk, append-nil, inl, inr, arith, length, length-append, ap, subst, ◌∙◌, unsigned_abs}
 use Rattle.std.specs.Io.KnownBytes.{Consumes, IsAtEnd}
 use Rattle.qm_model.specs.declared.game.Problem.{Problem}
-use Rattle.qm_model.specs.Endings.{HasEnding, IsOptimal}
-use Rattle.qm_minimax.specs.Answers.{ending_of}
+use Rattle.qm_model.specs.Sound.{IsSound}
+use Rattle.qm_certfile.specs.declared.certificate.Certificate.{Certificate}
+use Rattle.qm_certfile.specs.CertificateLines.{certificate_text}
+use Rattle.qm_certfile.specs.Passes.{Passes}
+use Rattle.qm_certfile.proofs.ToldEndings.{answered, told_ending}
 use Rattle.qm_parse.specs.Small.{IsSmallText}
 use Rattle.qm_top.specs.declared.command.Command.{Command}
 use Rattle.qm_top.specs.declared.command.Command.TheVariants.{Solve}
 use Rattle.qm_top.specs.Words.{Asks}
-use Rattle.qm_top.specs.Lines.{optimal_line}
-use Rattle.qm_top.specs.Answers.{Claims, optimal, IsAnswer, Reading, Solves, SolvesText, misused, solved, whole_text, longer, failed, no_room, claimed, unbuilt, out_of_memory}
+use Rattle.qm_top.specs.Answers.{Claims, IsAnswer, Reading, Solves, SolvesText, misused, solved, whole_text, longer, failed, no_room, claimed, unbuilt, out_of_memory}
 
 -- a fact of the value in an Ok leads to another
 pub IfOk-map : {T E : Type 0} (P Q : T → Type 0) (r : Result T E) → ((x : T) → P x → Q x) → IfOk r P → IfOk r Q
 IfOk-map P Q (Ok x) f h = f x h
 IfOk-map P Q (Err e) f h = tt
 
--- the claim of a value, where the objective isn't scaled
-pub claims_value : (P : Problem) (answer : Option ℤ) (n : ℤ) (text : List ℕ) → P.scale ≡ pos 1 → answer ≡ Some n → HasEnding P (ending_of P answer) → text ≡ optimal_line n → Claims P text
-claims_value P None n text scale is ends line = cc
-claims_value P (Some m) n text scale is ends line =
-    let same : m ≡ n = cc in
-    let den : unsigned_abs P.scale ≡ 1 = ap unsigned_abs scale in
-    let at_scale : IsOptimal P (record { num = n; den = unsigned_abs P.scale }) = subst (λ (k : ℤ). IsOptimal P (record { num = k; den = unsigned_abs P.scale })) same ends in
-    optimal n (subst (λ (d : ℕ). IsOptimal P (record { num = n; den = d })) den at_scale) line
+-- a certificate that passes, by its text
+pub claims_of : (P : Problem) (certificate : Certificate) (text : List ℕ) → IsSound P → Passes P certificate → text ≡ certificate_text P certificate → Claims P text
+claims_of P certificate text sound passes is = record {
+  certificate = certificate;
+  spelled = is;
+  passes = passes;
+  ending = told_ending P certificate sound passes;
+  answers = λ us play. answered P certificate us sound passes play;
+}
 
 -- what was read to its end is all that there was
 all_read : (before after : Option (List ℕ)) (bytes told : List ℕ) → before ≡ Some told → Consumes before after bytes → IsAtEnd after → told ≡ bytes

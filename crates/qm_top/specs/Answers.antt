@@ -4,14 +4,17 @@ use Rattle.std.specs.declared.option.Option.{Option}
 use Rattle.std.specs.Io.KnownBytes.{Appends, Consumes, IsAtEnd}
 use Rattle.qm_io.specs.Causes.{Rose}
 use Rattle.qm_io.specs.Bytes.{AppendsFront, TookSome}
-use Rattle.qm_math.specs.Fraction.{whole}
 use Rattle.qm_model.specs.declared.game.Problem.{Problem}
-use Rattle.qm_model.specs.Endings.{HasEnding, Infeasible, Optimal}
+use Rattle.qm_model.specs.Endings.{HasEnding}
+use Rattle.qm_model.specs.Plays.{IsPlay}
 use Rattle.qm_parse.specs.Small.{IsSmallText}
+use Rattle.qm_certfile.specs.declared.certificate.Certificate.{Certificate}
+use Rattle.qm_certfile.specs.CertificateLines.{certificate_text}
+use Rattle.qm_certfile.specs.Passes.{AnswersPlay, Passes, ending_of}
 use Rattle.qm_top.specs.declared.command.Command.{Command}
 use Rattle.qm_top.specs.declared.command.Command.TheVariants.{Solve}
 use Rattle.qm_top.specs.Words.{Asks}
-use Rattle.qm_top.specs.Lines.{line, optimal_line}
+use Rattle.qm_top.specs.Lines.{line}
 
 -- what became of a source: the bytes that it had left and has left, where it tells them, and its faults
 pub record Reading : Type 0 where
@@ -28,14 +31,18 @@ pub record IsUnread (read : Reading) : Type 0 where
   pub bytes : read.after ≡ read.before
   pub faults : read.faults_after ≡ read.faults_before
 
--- the text is the line that claims the problem's ending
-pub data Claims (P : Problem) (text : List ℕ) : Type 0 where
-  infeasible : HasEnding P Infeasible → text ≡ line (codes "infeasible") → Claims P text
-  optimal : (n : ℤ) → HasEnding P (Optimal (whole n)) → text ≡ optimal_line n → Claims P text
+-- The text is that of a certificate that passes, and what it claims is how the problem ends. Where it claims a value,
+-- its policy meets every row and reaches the value on every universal play.
+pub record Claims (P : Problem) (text : List ℕ) : Type 0 where
+  pub certificate : Certificate
+  pub spelled : text ≡ certificate_text P certificate
+  pub passes : Passes P certificate
+  pub ending : HasEnding P (ending_of certificate)
+  pub answers : (us : List ℤ) → IsPlay P us → AnswersPlay P us certificate
 
 -- what `solve` answers about the whole bytes of a problem
 pub data SolvesText (bytes : List ℕ) (status : ℕ) (text : List ℕ) : Type 0 where
-  -- the claim of the one problem that the bytes spell
+  -- the certificate of the one problem that the bytes spell
   claimed : (P : Problem) → IsSmallText bytes P → Claims P text → status ≡ 0 → SolvesText bytes status text
   -- the bytes are none that can be solved yet
   unbuilt : ((P : Problem) → ¬ IsSmallText bytes P) → status ≡ 11 → text ≡ line (codes "unbuilt") → SolvesText bytes status text

@@ -1,11 +1,7 @@
-ghost use Rattle.std.specs.Prelude.{◌≡◌, ◌++◌, codes, IfOk};
-ghost use Rattle.std.specs.Fmt.{signed_decimal};
+ghost use Rattle.std.specs.Prelude.{◌≡◌};
 ghost use Rattle.qm_top.specs.Report.{status_of, text_of};
-ghost use Rattle.qm_top.specs.Lines.{line, optimal_line};
 
-use itoa::Buffer;
-use qm_io::{List, Memory};
-use std::alloc::Global;
+use qm_io::List;
 
 /// What is answered.
 #[derive(Debug, Drop)]
@@ -18,8 +14,8 @@ pub enum Report {
     Unbuilt,
     /// Memory ran out.
     Memory,
-    /// The ending, as the line that claims it.
-    Claim(List<u8>),
+    /// The ending, as the text of its certificate.
+    Certificate(List<u8>),
 }
 
 impl Report {
@@ -32,7 +28,7 @@ impl Report {
             Report::ReadProblem => 3,
             Report::Unbuilt => 11,
             Report::Memory => 10,
-            Report::Claim(_) => 0,
+            Report::Certificate(_) => 0,
         }
     }
 
@@ -45,27 +41,7 @@ impl Report {
             Report::ReadProblem => b"read problem\n",
             Report::Unbuilt => b"unbuilt\n",
             Report::Memory => b"memory\n",
-            Report::Claim(line) => line.as_slice(),
+            Report::Certificate(text) => text.as_slice(),
         }
     }
-}
-
-/// The line that claims the value `n`.
-pub fn optimal_claim(alloc: Global, n: i128) -> Result<List<u8>, Memory>
-    ensures { IfOk result (λ text. text ≡ optimal_line n) }
-{
-    let mut text = List::new(alloc);
-    text.append(b"optimal ")?;
-    text.append(Buffer::new().format(n).as_bytes())?;
-    text.push(b'\n')?;
-    Ok(text)
-}
-
-/// The line that claims that the rows can't be met.
-pub fn infeasible_claim(alloc: Global) -> Result<List<u8>, Memory>
-    ensures { IfOk result (λ text. text ≡ line (codes "infeasible")) }
-{
-    let mut text = List::new(alloc);
-    text.append(b"infeasible\n")?;
-    Ok(text)
 }

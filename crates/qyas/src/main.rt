@@ -1,7 +1,10 @@
 //! The program. Its words and the system's streams go to `run`, whose answer is the exit status.
 #![tactic(auto)]
 
-use qm_io::{FileSource, StdSink, StdSource};
+ghost use Rattle.std.specs.Prelude.{◌≡◌, [], IfOk, slice_get, string_bytes};
+ghost use Rattle.std.specs.Option.{option_map_or};
+
+use qm_io::{FileSource, StdSink, StdSource, write_all};
 use qm_top::run;
 use std::alloc::{AllocError, Global};
 use std::process::ExitCode;
@@ -10,14 +13,27 @@ use std::{env, io};
 /// The exit status where there was no memory for the words.
 const NO_MEMORY: u8 = 10;
 
+/// The exit status where the output failed.
+const NO_OUTPUT: u8 = 4;
+
 /// The exit status where the system didn't give the words.
 const NO_WORDS: u8 = 13;
 
 /// The word at this place, as a path; an empty one, which is never opened, where there is no such word.
-fn path_at(alloc: Global, words: &[String], at: usize) -> Result<String, AllocError> {
+fn path_at(alloc: Global, words: &[String], at: usize) -> Result<String, AllocError>
+    ensures { IfOk result (λ path. string_bytes path ≡ option_map_or string_bytes (slice_get words.now at) []) }
+{
     match words.get(at) {
         Some(word) => word.clone(),
         None => Ok(String::new(alloc)),
+    }
+}
+
+/// Says that there was no memory for the words.
+fn tell_memory(rt: &HostRuntime) -> u8 {
+    match write_all(&mut StdSink::new(rt), b"memory\n") {
+        Ok(()) => NO_MEMORY,
+        Err(_) => NO_OUTPUT,
     }
 }
 
@@ -43,7 +59,7 @@ fn main(rt: HostRuntime) -> ExitCode {
         Ok(status) => ExitCode::from(status),
         Err(error) => {
             if error.kind() == io::ErrorKind::OutOfMemory {
-                ExitCode::from(NO_MEMORY)
+                ExitCode::from(tell_memory(&rt))
             } else {
                 ExitCode::from(NO_WORDS)
             }
