@@ -1,3 +1,4 @@
+mod asserts;
 mod closings;
 mod figures;
 mod games;

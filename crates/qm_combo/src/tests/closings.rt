@@ -1,7 +1,9 @@
 // Which goals a combination closes.
+use crate::tests::asserts::{closes_goal, come_to, leaves};
+use crate::tests::figures::whole_figures;
 use crate::tests::games::{half, sevenths, survey};
-use crate::tests::pieces::{closes_over, times, value_over};
-use qm_frac::Frac;
+use crate::tests::pieces::times;
+use qm_frac::{Frac, Leaves, Op};
 use qm_game::{Goal, RowId};
 use qm_trees::{ComboValue, Entry};
 use std::test::Fail;
@@ -10,20 +12,15 @@ use std::test::Fail;
 fn the_objective_alone_closes_above_3(rt: HostRuntime) -> Result<(), Fail> {
     let alloc = rt.alloc();
     let game = survey(alloc)?;
-    assert_eq!(rt;
-        value_over(alloc, &game, &[], true, &[])?,
-        Ok(ComboValue::Bound(Frac::whole(3)))
-    );
+    let figures = whole_figures(0, [-1, 0, -2], -3);
+    let bound = ComboValue::Bound(Frac::whole(3));
+    come_to(&rt, alloc, &game, &[], true, &[], figures, bound)?;
     for (goal, closed) in [
         (Goal::Above(Frac::whole(3)), true),
         (Goal::Above(Frac::whole(2)), false),
         (Goal::Any, false),
     ] {
-        assert_eq!(rt;
-            closes_over(alloc, &game, &[], true, &[], &goal)?,
-            Ok(closed),
-            "{goal:?}"
-        );
+        closes_goal(&rt, alloc, &game, &[], true, &[], &goal, closed)?;
     }
     Ok(())
 }
@@ -40,11 +37,16 @@ fn only_without_the_objective_is_any_objective_closed(rt: HostRuntime) -> Result
         (true, Goal::Above(Frac::whole(-1)), true),
         (true, Goal::Above(Frac::whole(-2)), false),
     ] {
-        assert_eq!(rt;
-            closes_over(alloc, &game, &[(0, 0, 0)], objective, &entries, &goal)?,
-            Ok(closed),
-            "{goal:?}"
-        );
+        closes_goal(
+            &rt,
+            alloc,
+            &game,
+            &[(0, 0, 0)],
+            objective,
+            &entries,
+            &goal,
+            closed,
+        )?;
     }
     Ok(())
 }
@@ -53,23 +55,32 @@ fn only_without_the_objective_is_any_objective_closed(rt: HostRuntime) -> Result
 #[test]
 fn an_empty_range_closes_with_no_operation(rt: HostRuntime) -> Result<(), Fail> {
     let alloc = rt.alloc();
-    let game = sevenths(alloc)?;
     let by = Frac::of(i128::MAX, 1).ok_or("out of range")?;
-    let leaving = [Entry {
+    let entries = [Entry {
         row: RowId::Row(0),
         by,
     }];
-    assert!(rt; closes_over(alloc, &game, &[], false, &leaving, &Goal::Any)?.is_err());
-    for ranges in [[(0, 1, 0)], [(1, 1, 0)]] {
+    let product = Leaves {
+        op: Op::Mul,
+        left: by,
+        right: Frac::whole(3),
+    };
+    let game = sevenths(alloc)?;
+    leaves(&rt, alloc, &game, &[], false, &entries, &product)?;
+    for var in [0, 1] {
         for objective in [false, true] {
-            assert_eq!(rt;
-                closes_over(alloc, &game, &ranges, objective, &[], &Goal::Any)?,
-                Ok(true)
-            );
-            assert_eq!(rt;
-                closes_over(alloc, &game, &ranges, objective, &leaving, &Goal::Any)?,
-                Ok(true)
-            );
+            let over = [(var, 1, 0)];
+            closes_goal(&rt, alloc, &game, &over, objective, &[], &Goal::Any, true)?;
+            closes_goal(
+                &rt,
+                alloc,
+                &game,
+                &over,
+                objective,
+                &entries,
+                &Goal::Any,
+                true,
+            )?;
         }
     }
     Ok(())

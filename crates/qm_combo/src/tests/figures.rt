@@ -5,13 +5,9 @@ ghost use Rattle.qm_trees.specs.RefuteRight.{AreNamed};
 ghost use Rattle.qm_combo.specs.Entries.{HasNarrowRows};
 
 use crate::sums::{add_right_sides, add_variables, combined_coefficient};
-use crate::tests::pieces::{box_with, rows_of};
-use crate::value;
 use qm_frac::{Frac, Leaves};
 use qm_game::{Bx, Game, Problem, Range};
-use qm_trees::{Combo, ComboValue, Entry};
-use std::alloc::Global;
-use std::test::Fail;
+use qm_trees::{Combo, Entry};
 
 /// The right side, the coefficients of three variables and the least value of the form. The coefficient of a
 /// variable that isn't there is 0.
@@ -41,7 +37,7 @@ fn figures_at(
     })
 }
 
-fn figures_of(game: &Game, bx: &Bx, combo: &Combo) -> Result<Figures, Leaves>
+pub(super) fn figures_of(game: &Game, bx: &Bx, combo: &Combo) -> Result<Figures, Leaves>
     requires named { AreNamed game.now [] combo.now.entries }
     requires bx { IsBox game.now.vars bx.now }
 {
@@ -59,19 +55,4 @@ pub(super) fn whole_figures(right: i64, coefficients: [i64; 3], least: i64) -> F
         coefficients: coefficients.map(Frac::whole),
         least: Frac::whole(least),
     }
-}
-
-pub(super) fn steps_over(
-    alloc: Global,
-    game: &Game,
-    ranges: &[(u32, i64, i64)],
-    objective: bool,
-    entries: &[Entry],
-) -> Result<(Figures, ComboValue), Fail> {
-    let bx = box_with(alloc, game, ranges)?;
-    let combo = rows_of(alloc, game, objective, entries)?;
-    Ok((
-        figures_of(game, &bx, &combo)?,
-        value(game, &[], &bx, &combo)?,
-    ))
 }

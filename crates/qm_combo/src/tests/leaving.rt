@@ -2,12 +2,11 @@
 // before coefficients.
 ghost use Rattle.std.specs.Prelude.{◌<ℤ◌, pos};
 
+use crate::tests::asserts::leaves;
 use crate::tests::games::sevenths;
-use crate::tests::pieces::value_over;
 use qm_frac::{Frac, Leaves, Op};
-use qm_game::{Game, RowId};
+use qm_game::RowId;
 use qm_trees::Entry;
-use std::alloc::Global;
 use std::test::Fail;
 
 fn fraction(num: i128, den: i128) -> Result<Frac, Fail>
@@ -19,32 +18,26 @@ fn fraction(num: i128, den: i128) -> Result<Frac, Fail>
     }
 }
 
-// What leaves over x from 0 to high.
-fn leaving(
-    alloc: Global,
-    game: &Game,
-    high: i64,
-    objective: bool,
-    entry: &Entry,
-) -> Result<Option<Leaves>, Fail> {
-    Ok(value_over(alloc, game, &[(0, 0, high)], objective, &[*entry])?.err())
-}
-
 #[test]
 fn the_right_side_leaves_before_the_coefficient(rt: HostRuntime) -> Result<(), Fail> {
     let alloc = rt.alloc();
-    let game = sevenths(alloc)?;
     let by = fraction(1 << 126, 1)?;
+    let game = sevenths(alloc)?;
     for (row, number) in [(RowId::Row(0), 3), (RowId::Row(1), 5)] {
         let product = Leaves {
             op: Op::Mul,
             left: by,
             right: Frac::whole(number),
         };
-        assert_eq!(rt;
-            leaving(alloc, &game, 1, false, &Entry { row, by })?,
-            Some(product)
-        );
+        leaves(
+            &rt,
+            alloc,
+            &game,
+            &[],
+            false,
+            &[Entry { row, by }],
+            &product,
+        )?;
     }
     Ok(())
 }
@@ -52,7 +45,6 @@ fn the_right_side_leaves_before_the_coefficient(rt: HostRuntime) -> Result<(), F
 #[test]
 fn the_constant_leaves_before_the_coefficient(rt: HostRuntime) -> Result<(), Fail> {
     let alloc = rt.alloc();
-    let game = sevenths(alloc)?;
     let entry = Entry {
         row: RowId::Row(0),
         by: fraction(i128::MAX, 3)?,
@@ -62,14 +54,13 @@ fn the_constant_leaves_before_the_coefficient(rt: HostRuntime) -> Result<(), Fai
         left: fraction(i128::MAX, 1)?,
         right: Frac::whole(1),
     };
-    assert_eq!(rt; leaving(alloc, &game, 1, true, &entry)?, Some(sum));
-    Ok(())
+    let game = sevenths(alloc)?;
+    leaves(&rt, alloc, &game, &[], true, &[entry], &sum)
 }
 
 #[test]
 fn the_sum_of_coefficients_leaves(rt: HostRuntime) -> Result<(), Fail> {
     let alloc = rt.alloc();
-    let game = sevenths(alloc)?;
     let by = fraction(1 << 124, 1)?;
     let entries = [
         Entry {
@@ -87,32 +78,31 @@ fn the_sum_of_coefficients_leaves(rt: HostRuntime) -> Result<(), Fail> {
         left: product,
         right: product,
     };
-    assert_eq!(rt; value_over(alloc, &game, &[], false, &entries)?, Err(sum));
-    Ok(())
+    let game = sevenths(alloc)?;
+    leaves(&rt, alloc, &game, &[], false, &entries, &sum)
 }
 
 // With the multiplier 1 / d the right side is (d + 3) / d and the coefficient (5 - d) / d.
 #[test]
 fn the_difference_and_the_quotient_leave(rt: HostRuntime) -> Result<(), Fail> {
     let alloc = rt.alloc();
-    let game = sevenths(alloc)?;
     let d = (1 << 126) + 7;
-    let entry = Entry {
+    let entries = [Entry {
         row: RowId::Row(0),
         by: fraction(1, d)?,
-    };
+    }];
     let right = fraction(d + 3, d)?;
     let difference = Leaves {
         op: Op::Sub,
         left: right,
         right: fraction(5 - d, d)?,
     };
-    assert_eq!(rt; leaving(alloc, &game, 1, true, &entry)?, Some(difference));
     let quotient = Leaves {
         op: Op::Div,
         left: right,
         right: Frac::whole(7),
     };
-    assert_eq!(rt; leaving(alloc, &game, 0, true, &entry)?, Some(quotient));
-    Ok(())
+    let game = sevenths(alloc)?;
+    leaves(&rt, alloc, &game, &[], true, &entries, &difference)?;
+    leaves(&rt, alloc, &game, &[(0, 0, 0)], true, &entries, &quotient)
 }

@@ -8,11 +8,10 @@ ghost use Rattle.qm_trees.specs.Entries.{IsBefore, IsPositive, row_named};
 ghost use Rattle.qm_trees.specs.RefuteRight.{AreNamed};
 
 use crate::terms::is_below;
-use crate::{closes, value};
-use qm_frac::{Frac, Leaves};
+use qm_frac::Frac;
 use qm_game::{Bx, Game, Goal, Player, Range, Row, RowId, Term, Terms, Var, narrow, whole_box};
 use qm_io::{List, Memory};
-use qm_trees::{Combo, ComboValue, Entry};
+use qm_trees::{Combo, Entry};
 use smallvec::SmallVec;
 use std::alloc::Global;
 use std::test::Fail;
@@ -177,31 +176,4 @@ pub(super) fn rows_of(
         [first, second] => two_rows(alloc, game, objective, first, second),
         _ => Err(Fail::new("more than two entries")),
     }
-}
-
-/// What the rows come to over the box, with the objective or without.
-pub(super) fn value_over(
-    alloc: Global,
-    game: &Game,
-    ranges: &[(u32, i64, i64)],
-    objective: bool,
-    entries: &[Entry],
-) -> Result<Result<ComboValue, Leaves>, Fail> {
-    let bx = box_with(alloc, game, ranges)?;
-    let combo = rows_of(alloc, game, objective, entries)?;
-    Ok(value(game, &[], &bx, &combo))
-}
-
-/// Whether they close the goal.
-pub(super) fn closes_over(
-    alloc: Global,
-    game: &Game,
-    ranges: &[(u32, i64, i64)],
-    objective: bool,
-    entries: &[Entry],
-    goal: &Goal,
-) -> Result<Result<bool, Leaves>, Fail> {
-    let bx = box_with(alloc, game, ranges)?;
-    let combo = rows_of(alloc, game, objective, entries)?;
-    Ok(closes(game, &[], &bx, goal, &combo))
 }
