@@ -1,6 +1,11 @@
 pub mod ToldEndings
-pub mod CertificateTexts
-pub mod Claims
-pub mod LineTexts
-pub mod TreeShapes
-pub mod TreeTexts
+mod CertificateTexts
+mod DifferentTexts
+mod LineSplits
+mod LineTexts
+mod NumberWords
+mod PolicyTold
+mod RefuteTold
+mod RowWords
+mod TreeShapes
+mod TreeTexts

@@ -4,3 +4,4 @@ pub mod TreeLines
 pub mod CertificateLines
 pub mod Passes
 pub mod Pieces
+pub mod Numbers

@@ -3,6 +3,7 @@
 
 mod certificate;
 mod endings;
+mod laws;
 mod lines;
 mod trees;
 mod words;
@@ -10,6 +11,7 @@ mod writer;
 
 pub use certificate::Certificate;
 pub use endings::a_passing_certificate_tells_the_ending;
+pub use laws::different_certificates_have_different_texts;
 pub use writer::write;
 
 #[cfg(test)]

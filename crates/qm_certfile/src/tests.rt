@@ -164,19 +164,44 @@ fn third() -> Frac {
     }
 }
 
+fn optimal(alloc: Global) -> Result<Certificate, Memory> {
+    Ok(Certificate::Optimal {
+        value: Frac::whole(2),
+        legal: legal(alloc, 0)?,
+        policy: policy(alloc)?,
+        refute: refute(alloc)?,
+    })
+}
+
+fn at_a_leaf(alloc: Global) -> Result<Certificate, Memory> {
+    let mut point = List::new(alloc);
+    point.push(third())?;
+    point.push(Frac::whole(-4))?;
+    Ok(Certificate::Optimal {
+        value: third(),
+        legal: List::new(alloc),
+        policy: Policy::Leaf { point },
+        refute: close_by_row(alloc)?,
+    })
+}
+
+fn infeasible(alloc: Global) -> Result<Certificate, Memory> {
+    let mut completion = legal(alloc, -2)?;
+    completion.push(7)?;
+    Ok(Certificate::Infeasible {
+        legal: legal(alloc, 1)?,
+        refute: pick(alloc, -1, completion, close_by_three(alloc)?)?,
+    })
+}
+
 #[test]
 fn an_optimal_certificate(rt: HostRuntime) -> Result<(), Fail> {
     let game = game(rt.alloc(), Sense::Max)?;
-    let certificate = Certificate::Optimal {
-        value: Frac::whole(2),
-        legal: legal(rt.alloc(), 0)?,
-        policy: policy(rt.alloc())?,
-        refute: refute(rt.alloc())?,
-    };
+    let certificate = optimal(rt.alloc())?;
     let text = write(rt.alloc(), &game, &certificate)?;
     let lines =
         b"optimal 2\ncertificate 1\nlegal 0\npolicy\nchoose 0\nanswer 1\nrange 0 1\nchoose 1\nleaf\nrefute\nover 2\nrange 0 0\nclose o\nrange 1 1\npick 1\nclose o r1=2\nend\n";
-    assert_eq!(rt; text.as_slice(), lines.as_slice());
+    assert!(rt; text.as_slice() == lines.as_slice());
     Ok(())
 }
 
@@ -184,34 +209,21 @@ fn an_optimal_certificate(rt: HostRuntime) -> Result<(), Fail> {
 #[test]
 fn a_negative_fraction(rt: HostRuntime) -> Result<(), Fail> {
     let game = game(rt.alloc(), Sense::Min)?;
-    let mut point = List::new(rt.alloc());
-    point.push(third())?;
-    point.push(Frac::whole(-4))?;
-    let certificate = Certificate::Optimal {
-        value: third(),
-        legal: List::new(rt.alloc()),
-        policy: Policy::Leaf { point },
-        refute: close_by_row(rt.alloc())?,
-    };
+    let certificate = at_a_leaf(rt.alloc())?;
     let text = write(rt.alloc(), &game, &certificate)?;
     let lines =
         b"optimal -1/3\ncertificate 1\nlegal\npolicy\nleaf 1/3 -4\nrefute\nclose o r1=2\nend\n";
-    assert_eq!(rt; text.as_slice(), lines.as_slice());
+    assert!(rt; text.as_slice() == lines.as_slice());
     Ok(())
 }
 
 #[test]
 fn an_infeasible_certificate(rt: HostRuntime) -> Result<(), Fail> {
     let game = game(rt.alloc(), Sense::Max)?;
-    let mut completion = legal(rt.alloc(), -2)?;
-    completion.push(7)?;
-    let certificate = Certificate::Infeasible {
-        legal: legal(rt.alloc(), 1)?,
-        refute: pick(rt.alloc(), -1, completion, close_by_three(rt.alloc())?)?,
-    };
+    let certificate = infeasible(rt.alloc())?;
     let text = write(rt.alloc(), &game, &certificate)?;
     let lines =
         b"infeasible\ncertificate 1\nlegal 1\nrefute\npick -1 -2 7\nclose r10=5 u1=1 c2=3\nend\n";
-    assert_eq!(rt; text.as_slice(), lines.as_slice());
+    assert!(rt; text.as_slice() == lines.as_slice());
     Ok(())
 }

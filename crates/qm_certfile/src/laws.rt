@@ -1,0 +1,10 @@
+ghost use Rattle.std.specs.Prelude.{◌≡◌, ◌<◌, ◌^◌};
+ghost use Rattle.qm_model.specs.declared.game.Problem.{Problem};
+ghost use Rattle.qm_certfile.specs.declared.certificate.Certificate.{Certificate};
+ghost use Rattle.qm_certfile.specs.CertificateLines.{certificate_text};
+ghost use Rattle.qm_certfile.specs.Numbers.{greatest_number};
+
+/// Different certificates have different texts, where no number of theirs has more than 64 digits.
+pub fn different_certificates_have_different_texts()
+    ensures { (P : Problem) (c d : Certificate) → greatest_number c < 10 ^ 64 → greatest_number d < 10 ^ 64 → certificate_text P c ≡ certificate_text P d → c ≡ d }
+{}
