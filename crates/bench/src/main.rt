@@ -1,13 +1,15 @@
 //! Does one operation of fractions many times, and prints a number made of all the answers.
-//! Its words are the operation, the kind of the operands and how many thousand times; it is timed
-//! from outside.
+//! Its words are the operation, the kind of the operands and how many thousand times; or `tokens` and how many
+//! thousand bytes of text are to be cut into tokens. It is timed from outside.
 #![tactic(auto)]
 
 mod operands;
+mod texts;
 mod work;
 
 use operands::Operands;
 use std::{env, io};
+use texts::tokens_in;
 use work::{Work, answers};
 
 fn main(rt: HostRuntime) -> io::Result<()> {
@@ -26,6 +28,13 @@ fn main(rt: HostRuntime) -> io::Result<()> {
                 _ => println!(rt; "?"),
             }
         }
+        [work, thousands] => match (work.as_str(), thousands.as_str().parse::<u32>()) {
+            ("tokens", Ok(thousands)) => {
+                let count = tokens_in(alloc, thousands)?;
+                println!(rt; "{count}")
+            }
+            _ => println!(rt; "?"),
+        },
         _ => println!(rt; "?"),
     }
 }

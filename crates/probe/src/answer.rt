@@ -1,4 +1,5 @@
 use crate::question::{Question, over, read_question};
+use crate::tokens::tokens_of;
 use qm_frac::{Frac, Leaves, Op};
 use std::alloc::{AllocError, Global};
 use std::cmp::Ordering;
@@ -24,6 +25,9 @@ impl fmt::Display for Shown {
 
 /// The answer to a line, and `?` where the line asks nothing.
 pub fn answer(alloc: Global, line: &str) -> Result<String, AllocError> {
+    if let Some(hex) = line.strip_prefix("tokens ") {
+        return tokens_of(alloc, hex);
+    }
     match read_question(line) {
         Some(question) => answer_to(alloc, question),
         None => nothing(alloc),

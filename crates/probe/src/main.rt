@@ -1,8 +1,10 @@
-//! Answers one operation of fractions for each line of standard input, such as `add 1/2 1/3`.
+//! Answers each line of standard input: one operation of fractions, such as `add 1/2 1/3`, or the tokens of a text
+//! whose bytes are written in hexadecimal, such as `tokens 32783c3d33`.
 #![tactic(auto)]
 
 mod answer;
 mod question;
+mod tokens;
 
 use std::io::{self, BufRead, BufReader, BufWriter, Write};
 

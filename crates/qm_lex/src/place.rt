@@ -1,0 +1,37 @@
+ghost use Rattle.std.specs.Prelude.{◌≡◌, ◌<◌, ◌≤◌, ◌^◌, length};
+ghost use Rattle.qm_lex.specs.Places.{column_behind, line_behind, place_of};
+
+/// A place in a text: its line and its column, both from 1. A column is a byte.
+#[derive(Clone, Copy, Debug, PartialEq, Eq)]
+pub struct Place {
+    pub line: u32,
+    pub column: u32,
+}
+
+/// The place of the byte at this index, or of the end of the text.
+pub fn place_at(text: &[u8], at: usize) -> Place
+    requires inside { at ≤ length text.now }
+    requires short { length text.now < 2 ^ 31 }
+    ensures { result ≡ place_of text.now at }
+{
+    place_behind(&text[..at])
+}
+
+/// The place behind the bytes.
+fn place_behind(bytes: &[u8]) -> Place
+    requires { length bytes.now < 2 ^ 31 }
+    ensures line { result.line ≡ line_behind 1 bytes.now }
+    ensures column { result.column ≡ column_behind 1 bytes.now }
+{
+    let mut line = 1;
+    let mut column = 1;
+    for byte in bytes {
+        if *byte == b'\n' {
+            line += 1;
+            column = 1;
+        } else {
+            column += 1;
+        }
+    }
+    Place { line, column }
+}
