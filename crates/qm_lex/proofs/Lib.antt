@@ -6,3 +6,4 @@ pub mod Longest
 pub mod OneKind
 pub mod Reached
 pub mod Blanks
+pub mod Every

@@ -32,7 +32,7 @@ no_token text at token ends start of =
 not_longer : (text : List ℕ) (one other : Kind) (n m : ℕ) → IsLongest text one n → IsLongest text other m → n < m → ⊥
 not_longer text one other n m p q h = p.longest m other h q.inside q.spelled
 
-compared : (n m : ℕ) → (n < m) ⊎ (m < n) ⊎ (n ≡ m)
+pub compared : (n m : ℕ) → (n < m) ⊎ (m < n) ⊎ (n ≡ m)
 compared zero zero = inr (inr refl)
 compared zero (suc m) = inl (omega arith)
 compared (suc n) zero = inr (inl (omega arith))

@@ -53,3 +53,8 @@ pub record BeginsNothing (text : List ℕ) (at : ℕ) : Type 0 where
 -- tokens, blanks and comments go up to this place, and its byte begins nothing
 abbrev pub IsFirstBad : List ℕ → ℕ → Type 0
 IsFirstBad text at = (tokens : List Token) × Reaches text 0 tokens at × BeginsNothing text at
+
+-- from one place to another, each token takes some bytes and begins where the one before it ended, or later
+abbrev pub AreInOrder : ℕ → List Token → ℕ → Type 0
+AreInOrder from [] to = from ≤ to
+AreInOrder from (token ∷ tokens) to = (from ≤ token.start) × (token.start < token.end) × AreInOrder token.end tokens to
