@@ -7,7 +7,8 @@ use Rattle.qm_trees.specs.declared.policy.Policy.{Policy}
 use Rattle.qm_trees.specs.declared.refutation.Refute.{Refute}
 use Rattle.qm_certfile.specs.declared.certificate.Certificate.{Certificate}
 use Rattle.qm_certfile.specs.declared.certificate.Certificate.TheVariants.{Optimal, Infeasible}
-use Rattle.qm_certfile.specs.Lines.{Line, line_text, number_word, text_of}
+use Rattle.qm_text.specs.Numbers.{number_word}
+use Rattle.qm_certfile.specs.Lines.{Line, line_text, text_of}
 use Rattle.qm_certfile.specs.Styles.{first_style}
 use Rattle.qm_certfile.specs.TreeLines.{policy_lines, refute_lines}
 use Rattle.qm_certfile.specs.CertificateLines.{alone, certificate_lines, certificate_text, claimed, legal_line, version_line}

@@ -8,7 +8,8 @@ use Rattle.std.proofs.lemmas.Bool.{eq-eqb, eqb-true}
 use Rattle.std.proofs.lemmas.Fmt.{decimal_is_IsNumeral_wide}
 use Rattle.std.proofs.lemmas.Str.Parse.{digit_from_value}
 use Rattle.qm_math.specs.Fraction.{Fraction}
-use Rattle.qm_certfile.specs.Lines.{Word, number_word}
+use Rattle.qm_text.specs.Numbers.{number_word}
+use Rattle.qm_certfile.specs.Lines.{Word}
 use Rattle.qm_certfile.specs.Numbers.{greatest_of_fraction}
 
 -- ---- bytes

@@ -10,7 +10,8 @@ use Rattle.qm_trees.specs.declared.policy.PolicyPart.{PolicyPart, out-PolicyPart
 use Rattle.qm_trees.specs.declared.policy.Below.TheOpen as answer
 use Rattle.qm_trees.specs.declared.policy.Below.TheViews.{roll-Policy, roll-Below, roll-PolicyPart, roll-out-Policy, roll-out-Below, roll-out-PolicyPart}
 use Rattle.qm_trees.specs.declared.policy.Below.TheFolds.{fold-Below, fold-roll-Below, fold-roll-Policy, fold-roll-PolicyPart, fold_out-Below, fold_out-Policy, fold_out-PolicyPart, map-Below, map-Policy, map-PolicyPart, ind-Policy}
-use Rattle.qm_certfile.specs.Lines.{number_word, text_of}
+use Rattle.qm_text.specs.Numbers.{number_word}
+use Rattle.qm_certfile.specs.Lines.{text_of}
 use Rattle.qm_certfile.specs.Numbers.{greatest, greatest_of_fraction, below_number_step, policy_number_step, policy_part_number_step, greatest_in_below, greatest_in_policy, greatest_in_policy_part}
 use Rattle.qm_certfile.specs.Styles.{first_style}
 use Rattle.qm_certfile.specs.TreeLines.{Lines, joined, below_step, policy_step, policy_part_step, policy_lines, policy_part_lines}

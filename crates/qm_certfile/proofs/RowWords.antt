@@ -7,7 +7,8 @@ use Rattle.qm_model.specs.declared.row_id.RowId.{RowId}
 use Rattle.qm_model.specs.declared.row_id.RowId.TheVariants as id
 use Rattle.qm_trees.specs.declared.combination.Entry.{Entry}
 use Rattle.qm_trees.specs.Entries.{Combination}
-use Rattle.qm_certfile.specs.Lines.{Word, line_text, number_word}
+use Rattle.qm_text.specs.Numbers.{number_word}
+use Rattle.qm_certfile.specs.Lines.{Word, line_text}
 use Rattle.qm_certfile.specs.Numbers.{greatest, greatest_of_entry, greatest_of_fraction, number_of_row}
 use Rattle.qm_certfile.specs.Styles.{first_style, numbered}
 use Rattle.qm_certfile.specs.TreeLines.{close_line, entry_word, objective_words}

@@ -19,7 +19,7 @@ use Rattle.qm_trees.specs.declared.refutation.Refute.TheOpen as why
 use Rattle.qm_trees.specs.declared.refutation.Refute.TheFolds.{fold-roll-Refute, fold_out-RefutePart}
 use Rattle.qm_trees.specs.declared.refutation.RefutePart.{RefutePart}
 use Rattle.qm_trees.specs.Entries.{Combination}
-use Rattle.qm_certfile.specs.Lines.{number_word}
+use Rattle.qm_text.specs.Numbers.{number_word}
 use Rattle.qm_certfile.specs.Styles.{Style}
 use Rattle.qm_certfile.specs.TreeLines.{Lines, joined, close_line, part_lines, below_step, policy_step, policy_part_step, policy_lines, policy_part_lines, refute_step, refute_part_step, refute_lines, refute_part_lines}
 

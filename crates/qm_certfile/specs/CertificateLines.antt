@@ -8,7 +8,8 @@ use Rattle.qm_model.specs.declared.game.Sense.TheVariants.{Max, Min}
 use Rattle.qm_model.specs.declared.game.Problem.{Problem}
 use Rattle.qm_certfile.specs.declared.certificate.Certificate.{Certificate}
 use Rattle.qm_certfile.specs.declared.certificate.Certificate.TheVariants.{Optimal, Infeasible}
-use Rattle.qm_certfile.specs.Lines.{Line, number_word, text_of}
+use Rattle.qm_text.specs.Numbers.{number_word}
+use Rattle.qm_certfile.specs.Lines.{Line, text_of}
 use Rattle.qm_certfile.specs.Styles.{Style, first_style}
 use Rattle.qm_certfile.specs.TreeLines.{policy_lines, refute_lines}
 

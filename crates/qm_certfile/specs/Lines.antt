@@ -1,7 +1,5 @@
--- Lines of words, and the words of numbers.
-use Rattle.std.specs.Prelude.{ℕ, List, [], ◌∷◌, ◌++◌, ◌==◌, if◌then◌else◌}
-use Rattle.std.specs.Fmt.{decimal, signed_decimal}
-use Rattle.qm_math.specs.Fraction.{Fraction}
+-- Lines of words.
+use Rattle.std.specs.Prelude.{ℕ, List, [], ◌∷◌, ◌++◌}
 
 -- a word's bytes
 abbrev pub Word : Type 0
@@ -20,7 +18,3 @@ line_text (word ∷ next ∷ words) = word ++ 32 ∷ line_text (next ∷ words)
 abbrev pub text_of : List Line → List ℕ
 text_of [] = []
 text_of (line ∷ lines) = line_text line ++ text_of lines
-
--- `A`, or `A/B` where the denominator isn't 1
-abbrev pub number_word : Fraction → Word
-number_word a = if a.den == 1 then signed_decimal a.num else signed_decimal a.num ++ 47 ∷ decimal a.den

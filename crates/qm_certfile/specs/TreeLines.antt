@@ -12,7 +12,8 @@ use Rattle.qm_trees.specs.declared.refutation.Refute.TheOpen as why
 use Rattle.qm_trees.specs.declared.refutation.Refute.TheFolds.{fold-Refute, fold-RefutePart}
 use Rattle.qm_trees.specs.declared.refutation.RefutePart.{RefutePart}
 use Rattle.qm_trees.specs.Entries.{Combination}
-use Rattle.qm_certfile.specs.Lines.{Word, Line, number_word}
+use Rattle.qm_text.specs.Numbers.{number_word}
+use Rattle.qm_certfile.specs.Lines.{Word, Line}
 use Rattle.qm_certfile.specs.Styles.{Style}
 
 -- the lines from a place on

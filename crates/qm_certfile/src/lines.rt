@@ -1,14 +1,16 @@
 ghost use Rattle.std.specs.Prelude.{◌≡◌, ◌++◌, ◌∷◌, [], ◌+◌, codes, map, OnOk};
 ghost use Rattle.std.specs.Fmt.{decimal, signed_decimal};
-ghost use Rattle.qm_certfile.specs.Lines.{line_text, number_word};
+ghost use Rattle.qm_text.specs.Numbers.{number_word};
+ghost use Rattle.qm_certfile.specs.Lines.{line_text};
 ghost use Rattle.qm_certfile.specs.Pieces.{spaced};
 ghost use Rattle.qm_certfile.specs.Styles.{first_style, numbered};
 ghost use Rattle.qm_certfile.specs.TreeLines.{close_line, entry_word, objective_words};
 
-use crate::words::{write_count, write_fraction, write_whole};
+use crate::words::{write_count, write_whole};
 use qm_frac::Frac;
 use qm_io::{List, Memory};
 use qm_model::{Range, RowId};
+use qm_text::write_frac;
 use qm_trees::{Combo, Entry};
 
 /// Appends a line of one word.
@@ -67,7 +69,7 @@ fn write_fractions(values: &[Frac], out: &mut List<u8>) -> Result<(), Memory>
 {
     for value in values {
         out.push(b' ')?;
-        write_fraction(out, *value)?;
+        write_frac(*value, out)?;
     }
     Ok(())
 }
@@ -126,7 +128,7 @@ fn write_entry(entry: Entry, out: &mut List<u8>) -> Result<(), Memory>
 {
     write_row_name(entry.row, out)?;
     out.push(b'=')?;
-    write_fraction(out, entry.by)
+    write_frac(entry.by, out)
 }
 
 /// Appends entries, each behind a space.

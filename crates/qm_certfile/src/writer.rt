@@ -1,5 +1,6 @@
 ghost use Rattle.std.specs.Prelude.{◌≡◌, ◌++◌, ◌∷◌, [], codes, OnOk, IfOk};
-ghost use Rattle.qm_certfile.specs.Lines.{line_text, number_word, text_of};
+ghost use Rattle.qm_text.specs.Numbers.{number_word};
+ghost use Rattle.qm_certfile.specs.Lines.{line_text, text_of};
 ghost use Rattle.qm_certfile.specs.Styles.{first_style};
 ghost use Rattle.qm_certfile.specs.TreeLines.{refute_lines};
 ghost use Rattle.qm_certfile.specs.CertificateLines.{alone, certificate_text, claimed, legal_line, version_line};
@@ -7,10 +8,10 @@ ghost use Rattle.qm_certfile.specs.CertificateLines.{alone, certificate_text, cl
 use crate::Certificate;
 use crate::lines::{write_alone, write_legal};
 use crate::trees::{write_policy, write_refute};
-use crate::words::write_fraction;
 use qm_frac::Frac;
 use qm_io::{List, Memory};
 use qm_model::{Game, Sense};
+use qm_text::write_frac;
 use qm_trees::Refute;
 use std::alloc::Global;
 
@@ -64,7 +65,7 @@ fn write_optimal(value: Frac, out: &mut List<u8>) -> Result<(), Memory>
     ensures { OnOk result (out.new ≡ out.old ++ line_text (codes "optimal" ∷ number_word value ∷ [])) }
 {
     out.append(b"optimal ")?;
-    write_fraction(out, value)?;
+    write_frac(value, out)?;
     out.push(b'\n')
 }
 

@@ -1,6 +1,6 @@
 use Rattle.std.proofs.Common.{map}
 use Rattle.std.specs.Prelude.{codes}
-use Rattle.qm_certfile.specs.Lines.{number_word}
+use Rattle.qm_text.specs.Numbers.{number_word}
 use Rattle.qm_certfile.proofs.LineTexts.{line_wrote, on_ok}
 use Rattle.qm_certfile.proofs.lines.write_leaf.Goals as goal
 

@@ -1,0 +1,18 @@
+ghost use Rattle.std.specs.Prelude.{◌≡◌, ◌++◌, OnOk};
+ghost use Rattle.qm_text.specs.Numbers.{number_word};
+
+use itoa::Buffer;
+use qm_frac::Frac;
+use qm_io::{List, Memory};
+
+/// Appends the fraction: `A`, or `A/B` where the denominator isn't 1.
+pub fn write_frac(f: Frac, out: &mut List<u8>) -> Result<(), Memory>
+    ensures { OnOk result (out.new ≡ out.old ++ number_word f) }
+{
+    out.append(Buffer::new().format(f.num()).as_bytes())?;
+    if f.den() == 1 {
+        return Ok(());
+    }
+    out.push(b'/')?;
+    out.append(Buffer::new().format(f.den()).as_bytes())
+}
