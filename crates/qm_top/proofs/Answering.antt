@@ -7,7 +7,7 @@ use Rattle.qm_certfile.specs.declared.certificate.Certificate.{Certificate}
 use Rattle.qm_certfile.specs.CertificateLines.{certificate_text}
 use Rattle.qm_certfile.specs.Passes.{Passes}
 use Rattle.qm_certfile.proofs.ToldEndings.{answered, told_ending}
-use Rattle.qm_parse.specs.Small.{IsSmallText}
+use Rattle.qm_small.specs.Small.{IsSmallText}
 use Rattle.qm_top.specs.declared.command.Command.{Command}
 use Rattle.qm_top.specs.declared.command.Command.TheVariants.{Solve}
 use Rattle.qm_top.specs.Words.{Asks}

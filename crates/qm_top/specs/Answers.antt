@@ -7,7 +7,7 @@ use Rattle.qm_io.specs.Bytes.{AppendsFront, TookSome}
 use Rattle.qm_model.specs.declared.game.Problem.{Problem}
 use Rattle.qm_model.specs.Endings.{HasEnding}
 use Rattle.qm_model.specs.Plays.{IsPlay}
-use Rattle.qm_parse.specs.Small.{IsSmallText}
+use Rattle.qm_small.specs.Small.{IsSmallText}
 use Rattle.qm_certfile.specs.declared.certificate.Certificate.{Certificate}
 use Rattle.qm_certfile.specs.CertificateLines.{certificate_text}
 use Rattle.qm_certfile.specs.Passes.{AnswersPlay, Passes, ending_of}

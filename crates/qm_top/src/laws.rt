@@ -1,6 +1,6 @@
 ghost use Rattle.std.specs.Prelude.{◌≡◌, ◌⊎◌, ◌<◌, ◌-◌, ◌^◌, ℕ, List, Some};
 ghost use Rattle.qm_model.specs.declared.game.Problem.{Problem};
-ghost use Rattle.qm_parse.specs.Small.{IsSmallText};
+ghost use Rattle.qm_small.specs.Small.{IsSmallText};
 ghost use Rattle.qm_top.specs.declared.command.Command.TheVariants.{Solve};
 ghost use Rattle.qm_top.specs.Words.{Asks};
 ghost use Rattle.qm_top.specs.Answers.{IsAnswer, Reading};

@@ -1,5 +1,5 @@
 ghost use Rattle.std.specs.Prelude.{◌≡◌, IfOk};
-ghost use Rattle.qm_parse.specs.Small.{IsPlainOne};
+ghost use Rattle.qm_small.specs.Small.{IsPlainOne};
 ghost use Rattle.qm_top.specs.Answers.{Claims, Solves, SolvesText, reading};
 ghost use Rattle.qm_top.specs.Report.{status_of, text_of};
 
@@ -7,7 +7,7 @@ use crate::report::Report;
 use qm_certfile::write;
 use qm_game::Game;
 use qm_io::{List, Memory, ReadFault, Source, Whole, read_all};
-use qm_parse::read_small;
+use qm_small::read_small;
 use std::alloc::Global;
 
 /// The most bytes that a problem has.
