@@ -1,4 +1,5 @@
 pub mod Fronts
+pub mod NumberParts
 pub mod NumberWords
 pub mod NumberFronts
 pub mod MarkFronts

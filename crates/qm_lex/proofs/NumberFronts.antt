@@ -3,7 +3,7 @@ use Rattle.std.proofs.Common.{◌≡◌, ℕ, zero, suc, ◌+◌, Bool, true, fa
 use Rattle.std.specs.Char.{is_ascii_digit}
 use Rattle.std.specs.List.{list_all}
 use Rattle.qm_lex.specs.Bytes.{begins_exponent, is_sign}
-use Rattle.qm_lex.specs.Numbers.{are_digits, are_signed_digits, is_exponent}
+use Rattle.qm_lex.proofs.NumberParts.{are_digits, are_signed_digits, is_exponent}
 use Rattle.qm_lex.proofs.NumberWords.{is_behind_point, is_behind_digit, is_fraction, is_number}
 use Rattle.qm_lex.specs.Reading.{digits_at, one_more, signed_digits_at, exponent_at, decimals_at, tail_at, point_at, number_at}
 use Rattle.qm_lex.proofs.Fronts.{IsLongestFront, LongestFront, FrontOrZero, agreeing, agreeing_or_zero, agree_behind, empty_passes, empty_fails, more, one_more_front, stop, never, front, behind_front}

@@ -4,7 +4,8 @@ use Rattle.std.specs.Char.{is_ascii_digit}
 use Rattle.std.specs.List.{list_all}
 use Rattle.std.proofs.lemmas.Bool.Decides.{nat_tests}
 use Rattle.qm_lex.specs.Bytes.{begins_exponent}
-use Rattle.qm_lex.specs.Numbers.{are_digits, are_signed_digits, is_exponent, HasPoint, IsNumber}
+use Rattle.qm_lex.specs.Numbers.{IsNumber}
+use Rattle.qm_lex.proofs.NumberParts.{are_digits, are_signed_digits, is_exponent, HasParts, HasPoint, both, from_number, to_number}
 
 -- what may stand behind the point of a number that has a digit: digits, then an exponent or nothing
 abbrev pub is_behind_point : List ℕ → Bool
@@ -28,10 +29,6 @@ is_fraction (byte ∷ word) = is_ascii_digit byte && is_behind_point word
 abbrev pub is_number : List ℕ → Bool
 is_number [] = false
 is_number (byte ∷ word) = if is_ascii_digit byte then is_behind_digit word else (byte == 46) && is_fraction word
-
-both : (a b : Bool) → a && b ≡ true → (a ≡ true) × (b ≡ true)
-both true b e = (refl, e)
-both false b e = absurd cc
 
 all_and : (byte : ℕ) (word : List ℕ) → is_ascii_digit byte ≡ true → list_all is_ascii_digit word ≡ true → list_all is_ascii_digit (byte ∷ word) ≡ true
 all_and byte word p q = rw (p, q) refl
@@ -102,7 +99,7 @@ digits_join (byte ∷ one) other p q =
 
 -- a number of a digit and what may stand behind it
 after_digit : (byte : ℕ) (word whole rest : List ℕ) → is_ascii_digit byte ≡ true → word ≡ whole ++ rest → list_all is_ascii_digit whole ≡ true
-    → (is_exponent rest ≡ true) ⊎ ((decimals : List ℕ) × (rest ≡ 46 ∷ decimals) × IsBehindPoint decimals) → IsNumber (byte ∷ word)
+    → (is_exponent rest ≡ true) ⊎ ((decimals : List ℕ) × (rest ≡ 46 ∷ decimals) × IsBehindPoint decimals) → HasParts (byte ∷ word)
 after_digit byte word whole rest e spelled digits (inl ends) = record {
   mantissa = byte ∷ whole;
   exponent = rest;
@@ -127,7 +124,7 @@ after_digit byte word whole rest e spelled digits (inr point) =
     }
 
 -- a number of a point, a digit and what may stand behind them
-after_point : (byte : ℕ) (word : List ℕ) → byte ≡ 46 → is_fraction word ≡ true → IsNumber (byte ∷ word)
+after_point : (byte : ℕ) (word : List ℕ) → byte ≡ 46 → is_fraction word ≡ true → HasParts (byte ∷ word)
 after_point byte [] point is = absurd cc
 after_point byte (digit ∷ word) point is =
     let parts = both (is_ascii_digit digit) (is_behind_point word) is in
@@ -140,14 +137,17 @@ after_point byte (digit ∷ word) point is =
       ends = behind.ends;
     }
 
-number_step : (byte : ℕ) (word : List ℕ) (t : Bool) → is_ascii_digit byte ≡ t → cond t (is_behind_digit word) (eqb byte 46 && is_fraction word) ≡ true → IsNumber (byte ∷ word)
+number_step : (byte : ℕ) (word : List ℕ) (t : Bool) → is_ascii_digit byte ≡ t → cond t (is_behind_digit word) (eqb byte 46 && is_fraction word) ≡ true → HasParts (byte ∷ word)
 number_step byte word true e is = let behind = behind_digit word is in after_digit byte word behind.whole behind.rest e behind.spelled behind.digits behind.ends
 number_step byte word false e is = let parts = both (eqb byte 46) (is_fraction word) is in after_point byte word (eqb-true byte 46 parts.0) parts.1
 
+parts_of : (word : List ℕ) → is_number word ≡ true → HasParts word
+parts_of [] is = absurd cc
+parts_of (byte ∷ word) is = number_step byte word (is_ascii_digit byte) refl is
+
 -- what the cases take is a number
 pub number_of : (word : List ℕ) → is_number word ≡ true → IsNumber word
-number_of [] is = absurd cc
-number_of (byte ∷ word) is = number_step byte word (is_ascii_digit byte) refl is
+number_of word is = to_number word (parts_of word is)
 
 e_no_digit : (byte : ℕ) → begins_exponent byte ≡ true → is_ascii_digit byte ≡ false
 e_no_digit byte e = grind (arith, nat_tests)
@@ -214,4 +214,6 @@ takes_mantissa mantissa exponent (inr point) ends =
 
 -- a number is what the cases take
 pub taken : (word : List ℕ) → IsNumber word → is_number word ≡ true
-taken word is = ap is_number is.spelled ∙ takes_mantissa is.mantissa is.exponent is.digits is.ends
+taken word h =
+    let is = from_number word h in
+    ap is_number is.spelled ∙ takes_mantissa is.mantissa is.exponent is.digits is.ends

@@ -5,3 +5,8 @@ pub mod Slashes
 pub mod Fractions
 pub mod FirstEnds
 pub mod Written
+pub mod Powers
+pub mod Zeros
+pub mod Cuts
+pub mod Spellings
+pub mod DecimalValues

@@ -65,7 +65,7 @@ decimal_spells n small = let w = writing n small in (plain_of n (decimal n) w, s
 
 -- ---- one numeral a number
 
-value_below : (ds : List ℕ) → are_digits ds ≡ true → value_of ds < 10 ^ length ds
+pub value_below : (ds : List ℕ) → are_digits ds ≡ true → value_of ds < 10 ^ length ds
 unfolding value_of
 value_below [] all = omega arith
 value_below (d ∷ ds) all =

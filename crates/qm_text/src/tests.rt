@@ -54,6 +54,98 @@ fn fractions(rt: HostRuntime) {
     );
 }
 
+#[test]
+fn decimals(rt: HostRuntime) {
+    assert_eq!(rt; read_decimal(b"1.50e1"), Ok(over(15, 1)));
+    assert_eq!(rt; read_decimal(b".5"), Ok(over(1, 2)));
+    assert_eq!(rt; read_decimal(b"5."), Ok(over(5, 1)));
+    assert_eq!(rt; read_decimal(b"00120.0300E+0"), Ok(over(12003, 100)));
+    assert_eq!(rt; read_decimal(b"2E-1"), Ok(over(1, 5)));
+    assert_eq!(rt; read_decimal(b"2e-0"), Ok(over(2, 1)));
+    for word in [
+        b"x".as_slice(),
+        b"",
+        b".",
+        b"e1",
+        b".e1",
+        b"2e",
+        b"2e+",
+        b"2e1.",
+        b"1.2.3",
+        b"-1",
+        b"2e1e1",
+        b"2e--1",
+        b"+1",
+    ] {
+        assert_eq!(rt; read_decimal(word), Err(NOT_NUMBER));
+    }
+}
+
+#[test]
+fn the_value_decides(rt: HostRuntime) {
+    assert_eq!(rt;
+        read_decimal(b"88817841970012523233890533447265625e-50"),
+        Ok(over(1, 1 << 50))
+    );
+    assert_eq!(rt;
+        read_decimal(b"85070591730234615865843651857942052864e-126"),
+        Err(LEAVES)
+    );
+    assert_eq!(rt; read_decimal(b"0e999999999999999999999"), Ok(over(0, 1)));
+    assert_eq!(rt;
+        read_decimal(b"0.00e-999999999999999999999999999999999999999999"),
+        Ok(over(0, 1))
+    );
+    assert_eq!(rt;
+        read_decimal(b"1e340282366920938463463374607431768211456"),
+        Err(LEAVES)
+    );
+    assert_eq!(rt;
+        read_decimal(b"1e-340282366920938463463374607431768211456"),
+        Err(LEAVES)
+    );
+    assert_eq!(rt;
+        read_decimal(b"1e38"),
+        Ok(over(100000000000000000000000000000000000000, 1))
+    );
+    assert_eq!(rt;
+        read_decimal(b"17e37"),
+        Ok(over(170000000000000000000000000000000000000, 1))
+    );
+    assert_eq!(rt; read_decimal(b"18e37"), Err(LEAVES));
+    assert_eq!(rt; read_decimal(b"1e39"), Err(LEAVES));
+    assert_eq!(rt;
+        read_decimal(b"1e-38"),
+        Ok(over(1, 100000000000000000000000000000000000000))
+    );
+    assert_eq!(rt; read_decimal(b"1e-39"), Err(LEAVES));
+}
+
+#[test]
+fn significant_digits(rt: HostRuntime) {
+    let most = over(99999999999999999999999999999999999999, 1);
+    assert_eq!(rt;
+        read_decimal(b"99999999999999999999999999999999999999"),
+        Ok(most)
+    );
+    assert_eq!(rt;
+        read_decimal(b"0099999999999999999999999999999999999.999000e3"),
+        Ok(most)
+    );
+    assert_eq!(rt;
+        read_decimal(b"100000000000000000000000000000000000001"),
+        Err(LEAVES)
+    );
+    assert_eq!(rt;
+        read_decimal(b"1.00000000000000000000000000000000000001"),
+        Err(LEAVES)
+    );
+    assert_eq!(rt;
+        read_decimal(b"1000000000000000000000000000000000000000e-39"),
+        Ok(over(1, 1))
+    );
+}
+
 fn written(alloc: Global, f: Frac) -> Result<List<u8>, Memory> {
     let mut text = List::new(alloc);
     write_frac(f, &mut text)?;
