@@ -3,14 +3,15 @@ use Rattle.std.proofs.Common.{◌≡◌, ℕ, ℤ, List, [], ◌∷◌, ◌++◌
 use Rattle.std.specs.Prelude.{codes}
 use Rattle.qm_math.specs.Fraction.{Fraction}
 use Rattle.qm_model.specs.declared.game.Problem.{Problem}
+use Rattle.qm_trees.specs.declared.empty.Empty.{Empty as Tree}
 use Rattle.qm_trees.specs.declared.policy.Policy.{Policy}
 use Rattle.qm_trees.specs.declared.refutation.Refute.{Refute}
 use Rattle.qm_certfile.specs.declared.certificate.Certificate.{Certificate}
-use Rattle.qm_certfile.specs.declared.certificate.Certificate.TheVariants.{Optimal, Infeasible}
+use Rattle.qm_certfile.specs.declared.certificate.Certificate.TheVariants.{Optimal, Infeasible, Empty}
 use Rattle.qm_text.specs.Numbers.{number_word}
 use Rattle.qm_certfile.specs.Lines.{Line, line_text, text_of}
 use Rattle.qm_certfile.specs.Styles.{first_style}
-use Rattle.qm_certfile.specs.TreeLines.{policy_lines, refute_lines}
+use Rattle.qm_certfile.specs.TreeLines.{illegal_lines, policy_lines, refute_lines}
 use Rattle.qm_certfile.specs.CertificateLines.{alone, certificate_lines, certificate_text, claimed, legal_line, version_line}
 use Rattle.qm_certfile.proofs.LineTexts.{text_of_append, wrote}
 
@@ -62,3 +63,23 @@ optimal_wrote P certificate value legal policy refute old first begun named chos
     (ap (λ ls. text_of (line ∷ begin_lines legal ++ alone (codes "policy") ∷ ls))
     (append_assoc (policy_lines first_style policy 0) (alone (codes "refute") ∷ refute_lines first_style refute 0) (alone (codes "end") ∷ [])))
     ∙ ap (λ t. old ++ t) (sym (text_is P (Optimal value legal policy refute)) ∙ sym (ap (certificate_text P) is))
+
+-- the lines of the certificate that there is no universal play
+abbrev pub no_play_lines : Tree → List Line
+no_play_lines tree = alone (codes "empty") ∷ version_line first_style ∷ illegal_lines first_style tree 0 ++ alone (codes "end") ∷ []
+
+pub no_play_wrote : (tree : Tree) (old first second behind new : List ℕ) → first ≡ old ++ line_text (alone (codes "empty")) → second ≡ first ++ line_text (version_line first_style)
+    → ((place : ℕ) → behind ≡ second ++ text_of (illegal_lines first_style tree place)) → new ≡ behind ++ line_text (alone (codes "end"))
+    → new ≡ old ++ text_of (no_play_lines tree)
+no_play_wrote tree old first second behind new e f g h =
+    let shown = illegal_lines first_style tree 0 in
+    let end = alone (codes "end") ∷ [] in
+    wrote old first new (line_text (alone (codes "empty"))) (text_of (version_line first_style ∷ shown ++ end)) (text_of (no_play_lines tree)) e
+    (wrote first second new (line_text (version_line first_style)) (text_of (shown ++ end)) (text_of (version_line first_style ∷ shown ++ end)) f
+    (wrote second behind new (text_of shown) (text_of end) (text_of (shown ++ end)) (g 0) h (text_of_append shown end))
+    refl)
+    refl
+
+pub empty_wrote : (P : Problem) (certificate : Certificate) (tree : Tree) (old new : List ℕ) → certificate ≡ Empty tree → new ≡ old ++ text_of (no_play_lines tree)
+    → new ≡ old ++ certificate_text P certificate
+empty_wrote P certificate tree old new is e = e ∙ ap (λ t. old ++ t) (sym (text_is P (Empty tree)) ∙ sym (ap (certificate_text P) is))

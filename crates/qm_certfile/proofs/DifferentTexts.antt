@@ -9,21 +9,23 @@ use Rattle.qm_frac.proofs.SignLaws.{unsigned_abs-neg}
 use Rattle.qm_model.specs.declared.game.Sense.{Sense}
 use Rattle.qm_model.specs.declared.game.Sense.TheVariants.{Max, Min}
 use Rattle.qm_model.specs.declared.game.Problem.{Problem}
+use Rattle.qm_trees.specs.declared.empty.Empty.{Empty as Tree}
 use Rattle.qm_trees.specs.declared.policy.Policy.{Policy}
 use Rattle.qm_trees.specs.declared.refutation.Refute.{Refute}
 use Rattle.qm_certfile.specs.declared.certificate.Certificate.{Certificate}
-use Rattle.qm_certfile.specs.declared.certificate.Certificate.TheVariants.{Optimal, Infeasible}
+use Rattle.qm_certfile.specs.declared.certificate.Certificate.TheVariants.{Optimal, Infeasible, Empty}
 use Rattle.qm_text.specs.Numbers.{number_word}
 use Rattle.qm_certfile.specs.Lines.{line_text, text_of}
-use Rattle.qm_certfile.specs.Numbers.{greatest, greatest_of_fraction, greatest_in_refute, greatest_number}
+use Rattle.qm_certfile.specs.Numbers.{greatest, greatest_of_fraction, greatest_in_empty, greatest_in_refute, greatest_number}
 use Rattle.qm_certfile.specs.Styles.{first_style}
-use Rattle.qm_certfile.specs.TreeLines.{policy_lines, refute_lines}
+use Rattle.qm_certfile.specs.TreeLines.{illegal_lines, policy_lines, refute_lines}
 use Rattle.qm_certfile.specs.CertificateLines.{alone, certificate_text, claimed, legal_line, version_line}
 use Rattle.qm_certfile.proofs.LineTexts.{text_of_append}
-use Rattle.qm_certfile.proofs.CertificateTexts.{text_is, last_lines}
+use Rattle.qm_certfile.proofs.CertificateTexts.{text_is, last_lines, no_play_lines}
 use Rattle.qm_certfile.proofs.NumberWords.{apart, number_same, visible_number, visible_word}
 use Rattle.qm_certfile.proofs.LineSplits.{AreWords, line_split, same_words, visible_words, word_same, words_behind}
 use Rattle.qm_certfile.proofs.RowWords.{wholes_spell}
+use Rattle.qm_certfile.proofs.EmptyTold.{illegal_told}
 use Rattle.qm_certfile.proofs.PolicyTold.{policy_told}
 use Rattle.qm_certfile.proofs.RefuteTold.{refute_told}
 
@@ -91,6 +93,21 @@ infeasible_is : (P : Problem) (legal : List ℤ) (refute : Refute)
     ≡ line_text (alone (codes "infeasible")) ++ (line_text (version_line first_style) ++ (line_text (legal_line first_style legal) ++ text_of (last_lines refute)))
 infeasible_is P legal refute = text_is P (Infeasible legal refute)
 
+-- the certificate that there is no universal play
+empty_is : (P : Problem) (tree : Tree) → certificate_text P (Empty tree) ≡ text_of (no_play_lines tree)
+empty_is P tree = text_is P (Empty tree)
+
+empty_told : (s t : Tree) → greatest_in_empty s < 10 ^ 64 → greatest_in_empty t < 10 ^ 64 → text_of (no_play_lines s) ≡ text_of (no_play_lines t) → s ≡ t
+empty_told s t h k e =
+    let end = alone (codes "end") ∷ [] in
+    let word : AreWords (codes "empty" ∷ []) = (visible_word (codes "empty") tt, tt) in
+    let version : AreWords (version_line first_style) = (visible_word (codes "certificate") tt, (visible_word (codes "1") tt, tt)) in
+    let a = text_of (illegal_lines first_style s 0 ++ end) in
+    let b = text_of (illegal_lines first_style t 0 ++ end) in
+    let first = line_split (codes "empty") (codes "empty") [] [] (line_text (version_line first_style) ++ a) (line_text (version_line first_style) ++ b) word word e in
+    let second = line_split (codes "certificate") (codes "certificate") (codes "1" ∷ []) (codes "1" ∷ []) a b version version first.1 in
+    (illegal_told s 0 t (text_of end) (text_of end) h k (sym (text_of_append (illegal_lines first_style s 0) end) ∙ second.1 ∙ text_of_append (illegal_lines first_style t 0) end)).0
+
 optimal_words : (P : Problem) (value : Fraction) → greatest_of_fraction value < 10 ^ 64 → AreWords (codes "optimal" ∷ number_word (claimed P.sense value) ∷ [])
 optimal_words P value h = (visible_word (codes "optimal") tt, (visible_number (claimed P.sense value) (claimed_size P.sense value h), tt))
 
@@ -111,6 +128,11 @@ certificate_told P (Optimal v xs p s) (Optimal w ys q t) h k e =
     let last = last_told s t (omega arith) (omega arith) tree.1 in
     λ i. Optimal (value i) (legal.0 i) (tree.0 i) (last i)
 certificate_told P (Optimal v xs p s) (Infeasible ys t) h k e = absurd (apart 111 105 tt (sym (optimal_is P v xs p s) ∙ e ∙ infeasible_is P ys t))
+certificate_told P (Optimal v xs p s) (Empty u) h k e = absurd (apart 111 101 tt (sym (optimal_is P v xs p s) ∙ e ∙ empty_is P u))
+certificate_told P (Infeasible xs s) (Empty u) h k e = absurd (apart 105 101 tt (sym (infeasible_is P xs s) ∙ e ∙ empty_is P u))
+certificate_told P (Empty r) (Optimal w ys q t) h k e = absurd (apart 101 111 tt (sym (empty_is P r) ∙ e ∙ optimal_is P w ys q t))
+certificate_told P (Empty r) (Infeasible ys t) h k e = absurd (apart 101 105 tt (sym (empty_is P r) ∙ e ∙ infeasible_is P ys t))
+certificate_told P (Empty r) (Empty u) h k e = ap Empty (empty_told r u h k (sym (empty_is P r) ∙ e ∙ empty_is P u))
 certificate_told P (Infeasible xs s) (Optimal w ys q t) h k e = absurd (apart 105 111 tt (sym (infeasible_is P xs s) ∙ e ∙ optimal_is P w ys q t))
 certificate_told P (Infeasible xs s) (Infeasible ys t) h k e =
     let word : AreWords (codes "infeasible" ∷ []) = (visible_word (codes "infeasible") tt, tt) in

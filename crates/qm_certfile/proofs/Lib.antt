@@ -1,6 +1,7 @@
 pub mod ToldEndings
 mod CertificateTexts
 mod DifferentTexts
+mod EmptyTold
 mod LineSplits
 mod LineTexts
 mod NumberWords

@@ -14,17 +14,17 @@ use Rattle.qm_text.specs.Numbers.{number_word}
 use Rattle.qm_certfile.specs.Lines.{text_of}
 use Rattle.qm_certfile.specs.Numbers.{greatest, greatest_of_fraction, below_number_step, policy_number_step, policy_part_number_step, greatest_in_below, greatest_in_policy, greatest_in_policy_part}
 use Rattle.qm_certfile.specs.Styles.{first_style}
-use Rattle.qm_certfile.specs.TreeLines.{Lines, joined, below_step, policy_step, policy_part_step, policy_lines, policy_part_lines}
+use Rattle.qm_certfile.specs.TreeLines.{Lines, joined, below_lines, below_step, policy_step, policy_part_step, policy_lines, policy_part_lines}
 use Rattle.qm_certfile.proofs.NumberWords.{apart, differ, decimal_same, signed_same, visible_decimal, visible_signed, visible_word}
 use Rattle.qm_certfile.proofs.LineSplits.{AreWords, IsTold, first_line, first_of_line, parts_told, same_words, visible_words, word_same, words_behind}
+use Rattle.qm_certfile.proofs.EmptyTold.{illegal_told}
 use Rattle.qm_certfile.proofs.RowWords.{fractions_spell, range_told}
 
--- the lines of what stands below a range
-abbrev below_lines : Below → Lines
-below_lines = fold-Below Lines Lines Lines below_step (policy_step first_style) policy_part_step
+abbrev lines_below : Below → Lines
+lines_below = below_lines first_style
 
 abbrev ToldBelow : Below → Type 0
-ToldBelow b = IsTold Below below_lines greatest_in_below b
+ToldBelow b = IsTold Below lines_below greatest_in_below b
 
 abbrev ToldPolicy : Policy → Type 0
 ToldPolicy p = IsTold Policy (policy_lines first_style) greatest_in_policy p
@@ -44,7 +44,7 @@ abbrev plain : Known → Layer
 plain y = map-Policy ((b : Below) × ToldBelow b) ((p : Policy) × ToldPolicy p) ((r : PolicyPart) × ToldPart r) Below Policy PolicyPart (λ e. e.0) (λ e. e.0) (λ e. e.0) y
 
 abbrev layer_lines : Layer → Lines
-layer_lines z = policy_step first_style (map-Policy Below Policy PolicyPart Lines Lines Lines below_lines (policy_lines first_style) (policy_part_lines first_style) z)
+layer_lines z = policy_step first_style (map-Policy Below Policy PolicyPart Lines Lines Lines lines_below (policy_lines first_style) (policy_part_lines first_style) z)
 
 abbrev layer_number : Layer → ℕ
 layer_number z = policy_number_step (map-Policy Below Policy PolicyPart ℕ ℕ ℕ greatest_in_below greatest_in_policy greatest_in_policy_part z)
@@ -99,8 +99,8 @@ layers_told (answer.Leaf xs) (answer.Leaf ys) place a b h k e =
 
 policy_told_step : (x : Layer) (y : Known) → plain y ≡ x → ToldPolicy (roll-Policy x)
 policy_told_step x y is = subst (λ z. ToldPolicy (roll-Policy z)) is (λ place t a b h k e.
-    let here = fold-roll-Policy Lines Lines Lines below_step (policy_step first_style) policy_part_step (plain y) in
-    let there = fold_out-Policy Lines Lines Lines below_step (policy_step first_style) policy_part_step t in
+    let here = fold-roll-Policy Lines Lines Lines (below_step first_style) (policy_step first_style) policy_part_step (plain y) in
+    let there = fold_out-Policy Lines Lines Lines (below_step first_style) (policy_step first_style) policy_part_step t in
     let size_here = fold-roll-Policy ℕ ℕ ℕ below_number_step policy_number_step policy_part_number_step (plain y) in
     let size_there = fold_out-Policy ℕ ℕ ℕ below_number_step policy_number_step policy_part_number_step t in
     let told = layers_told y (out-Policy t) place a b (subst (λ n. n < 10 ^ 64) size_here h) (subst (λ n. n < 10 ^ 64) size_there k)
@@ -116,21 +116,37 @@ abbrev plain_below : KnownBelow → answer.Below-F Below Policy PolicyPart
 plain_below y = map-Below ((b : Below) × ToldBelow b) ((p : Policy) × ToldPolicy p) ((r : PolicyPart) × ToldPart r) Below Policy PolicyPart (λ e. e.0) (λ e. e.0) (λ e. e.0) y
 
 abbrev below_layer_lines : answer.Below-F Below Policy PolicyPart → Lines
-below_layer_lines z = below_step (map-Below Below Policy PolicyPart Lines Lines Lines below_lines (policy_lines first_style) (policy_part_lines first_style) z)
+below_layer_lines z = below_step first_style (map-Below Below Policy PolicyPart Lines Lines Lines lines_below (policy_lines first_style) (policy_part_lines first_style) z)
 
 abbrev below_layer_number : answer.Below-F Below Policy PolicyPart → ℕ
 below_layer_number z = below_number_step (map-Below Below Policy PolicyPart ℕ ℕ ℕ greatest_in_below greatest_in_policy greatest_in_policy_part z)
+
+-- no policy's text begins as one does that calls something illegal
+layer_not_illegal : (z : Layer) (place : ℕ) (x : List ℕ) → first (text_of (layer_lines z place) ++ x) ≡ 105 → ⊥
+layer_not_illegal (answer.Choose v p) place x e = differ 99 105 tt e
+layer_not_illegal (answer.Answer ps) place x e = differ 97 105 tt e
+layer_not_illegal (answer.Leaf ys) place x e = differ 108 105 tt (sym (leaf_first ys x) ∙ e)
+
+not_illegal : (p : Policy) (place : ℕ) (x : List ℕ) → first (text_of (policy_lines first_style p place) ++ x) ≡ 105 → ⊥
+not_illegal p place x e =
+    layer_not_illegal (out-Policy p) place x
+    (sym (ap (λ (f : Lines). first (text_of (f place) ++ x)) (fold_out-Policy Lines Lines Lines (below_step first_style) (policy_step first_style) policy_part_step p)) ∙ e)
 
 belows_told : (y : KnownBelow) (z : answer.Below-F Below Policy PolicyPart) (place : ℕ) (a b : List ℕ) → below_layer_number (plain_below y) < 10 ^ 64 → below_layer_number z < 10 ^ 64
     → text_of (below_layer_lines (plain_below y) place) ++ a ≡ text_of (below_layer_lines z place) ++ b → (plain_below y ≡ z) × (a ≡ b)
 belows_told (answer.On p) (answer.On q) place a b h k e =
     let told = p.1 place q a b h k e in
     (ap answer.On told.0, told.1)
+belows_told (answer.On p) (answer.Illegal t) place a b h k e = absurd (not_illegal p.0 place a (ap first e))
+belows_told (answer.Illegal s) (answer.On q) place a b h k e = absurd (not_illegal q place b (sym (ap first e)))
+belows_told (answer.Illegal s) (answer.Illegal t) place a b h k e =
+    let told = illegal_told s place t a b h k e in
+    (ap answer.Illegal told.0, told.1)
 
 below_told_step : (x : answer.Below-F Below Policy PolicyPart) (y : KnownBelow) → plain_below y ≡ x → ToldBelow (roll-Below x)
 below_told_step x y is = subst (λ z. ToldBelow (roll-Below z)) is (λ place t a b h k e.
-    let here = fold-roll-Below Lines Lines Lines below_step (policy_step first_style) policy_part_step (plain_below y) in
-    let there = fold_out-Below Lines Lines Lines below_step (policy_step first_style) policy_part_step t in
+    let here = fold-roll-Below Lines Lines Lines (below_step first_style) (policy_step first_style) policy_part_step (plain_below y) in
+    let there = fold_out-Below Lines Lines Lines (below_step first_style) (policy_step first_style) policy_part_step t in
     let size_here = fold-roll-Below ℕ ℕ ℕ below_number_step policy_number_step policy_part_number_step (plain_below y) in
     let size_there = fold_out-Below ℕ ℕ ℕ below_number_step policy_number_step policy_part_number_step t in
     let told = belows_told y (out-Below t) place a b (subst (λ n. n < 10 ^ 64) size_here h) (subst (λ n. n < 10 ^ 64) size_there k)
@@ -146,7 +162,7 @@ abbrev plain_part : KnownPart → answer.PolicyPart-F Below Policy PolicyPart
 plain_part y = map-PolicyPart ((b : Below) × ToldBelow b) ((p : Policy) × ToldPolicy p) ((r : PolicyPart) × ToldPart r) Below Policy PolicyPart (λ e. e.0) (λ e. e.0) (λ e. e.0) y
 
 abbrev part_layer_lines : answer.PolicyPart-F Below Policy PolicyPart → Lines
-part_layer_lines z = policy_part_step (map-PolicyPart Below Policy PolicyPart Lines Lines Lines below_lines (policy_lines first_style) (policy_part_lines first_style) z)
+part_layer_lines z = policy_part_step (map-PolicyPart Below Policy PolicyPart Lines Lines Lines lines_below (policy_lines first_style) (policy_part_lines first_style) z)
 
 abbrev part_layer_number : answer.PolicyPart-F Below Policy PolicyPart → ℕ
 part_layer_number z = policy_part_number_step (map-PolicyPart Below Policy PolicyPart ℕ ℕ ℕ greatest_in_below greatest_in_policy greatest_in_policy_part z)
@@ -154,7 +170,7 @@ part_layer_number z = policy_part_number_step (map-PolicyPart Below Policy Polic
 parts_told_each : (y : KnownPart) (z : answer.PolicyPart-F Below Policy PolicyPart) (place : ℕ) (a b : List ℕ) → part_layer_number (plain_part y) < 10 ^ 64 → part_layer_number z < 10 ^ 64
     → text_of (part_layer_lines (plain_part y) place) ++ a ≡ text_of (part_layer_lines z place) ++ b → (plain_part y ≡ z) × (a ≡ b)
 parts_told_each y z place a b h k e =
-    let line = range_told y.range z.range (text_of (below_lines y.below.0 place)) (text_of (below_lines z.below place)) a b (omega arith) (omega arith) (omega arith) (omega arith) e in
+    let line = range_told y.range z.range (text_of (lines_below y.below.0 place)) (text_of (lines_below z.below place)) a b (omega arith) (omega arith) (omega arith) (omega arith) e in
     let below = y.below.1 place z.below a b (omega arith) (omega arith) line.1 in
     let range = line.0 in
     let tree = below.0 in
@@ -162,8 +178,8 @@ parts_told_each y z place a b h k e =
 
 part_told_step : (x : answer.PolicyPart-F Below Policy PolicyPart) (y : KnownPart) → plain_part y ≡ x → ToldPart (roll-PolicyPart x)
 part_told_step x y is = subst (λ z. ToldPart (roll-PolicyPart z)) is (λ place t a b h k e.
-    let here = fold-roll-PolicyPart Lines Lines Lines below_step (policy_step first_style) policy_part_step (plain_part y) in
-    let there = fold_out-PolicyPart Lines Lines Lines below_step (policy_step first_style) policy_part_step t in
+    let here = fold-roll-PolicyPart Lines Lines Lines (below_step first_style) (policy_step first_style) policy_part_step (plain_part y) in
+    let there = fold_out-PolicyPart Lines Lines Lines (below_step first_style) (policy_step first_style) policy_part_step t in
     let size_here = fold-roll-PolicyPart ℕ ℕ ℕ below_number_step policy_number_step policy_part_number_step (plain_part y) in
     let size_there = fold_out-PolicyPart ℕ ℕ ℕ below_number_step policy_number_step policy_part_number_step t in
     let told = parts_told_each y (out-PolicyPart t) place a b (subst (λ n. n < 10 ^ 64) size_here h) (subst (λ n. n < 10 ^ 64) size_there k)

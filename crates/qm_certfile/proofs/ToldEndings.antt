@@ -1,6 +1,7 @@
 -- What a certificate that passes tells of its problem.
-use Rattle.std.proofs.Common.{◌≡◌, refl, List, [], ◌∷◌, ℤ, All, arith}
+use Rattle.std.proofs.Common.{◌≡◌, refl, subst, List, [], ◌∷◌, ℤ, All, arith}
 use Rattle.std.specs.Prelude.{drop}
+use Rattle.std.proofs.lemmas.List.{take-append-drop}
 use Rattle.qm_model.specs.declared.game.Problem.{Problem}
 use Rattle.qm_model.specs.declared.row.Row.{Row}
 use Rattle.qm_model.specs.declared.variable.Var.{Var}
@@ -9,15 +10,19 @@ use Rattle.qm_model.specs.Endings.{HasEnding}
 use Rattle.qm_model.specs.Goals.{Goal, Any, Above, IsProper}
 use Rattle.qm_model.specs.Legal.{AgreesWithPlay, IsLegal, universal_part}
 use Rattle.qm_model.specs.Plays.{IsPlay, whole_vars}
+use Rattle.qm_model.specs.Points.{continuous_vars}
 use Rattle.qm_model.specs.Sound.{IsSound}
 use Rattle.qm_model.specs.Wins.{Wins}
 use Rattle.qm_model.proofs.Legality.{legal_of_play}
 use Rattle.qm_trees.specs.declared.refutation.Refute.{Refute}
 use Rattle.qm_trees.specs.Cuts.{HoldCuts}
+use Rattle.qm_trees.specs.Picks.{Fit}
+use Rattle.qm_trees.proofs.EmptySound.{no_play}
+use Rattle.qm_trees.proofs.PickedPlays.{within_fits}
 use Rattle.qm_trees.proofs.PolicyReaches.{right_reaches, right_wins}
 use Rattle.qm_trees.proofs.RefutationsRefuse.{right_refuses}
 use Rattle.qm_certfile.specs.declared.certificate.Certificate.{Certificate}
-use Rattle.qm_certfile.specs.declared.certificate.Certificate.TheVariants.{Optimal, Infeasible}
+use Rattle.qm_certfile.specs.declared.certificate.Certificate.TheVariants.{Optimal, Infeasible, Empty}
 use Rattle.qm_certfile.specs.Passes.{AnswersPlay, Passes, RefutesWhole, ending_of}
 
 -- where there is a play, the empty prefix is legal
@@ -35,6 +40,11 @@ refused : (P : Problem) (us : List ℤ) (G : Goal) (tree : Refute) → IsSound P
 refused P us G tree sound play proper whole wins =
     right_refuses P [] [] G 0 (whole_box_of P.vars) tree [] sound proper (no_cuts P) whole.0 refl tt tt refl (empty_is_legal P us play) wins
 
+-- each play has its values in the whole box
+whole_fits : (P : Problem) (us : List ℤ) → IsPlay P us → Fit (whole_vars P) (whole_box_of P.vars) us
+whole_fits P us play =
+    subst (λ xs. Fit (whole_vars P) (whole_box_of xs) us) (take-append-drop P.wholes P.vars) (within_fits (whole_vars P) (continuous_vars P) us play.within)
+
 pub told_ending : (P : Problem) (certificate : Certificate) → IsSound P → Passes P certificate → HasEnding P (ending_of certificate)
 told_ending P (Optimal value legal policy refute) sound passes = record {
   positive = passes.0;
@@ -48,7 +58,9 @@ told_ending P (Infeasible legal refute) sound passes = record {
   is_play = passes.0;
   loses = refused P legal Any refute sound passes.0 tt passes.1;
 }
+told_ending P (Empty tree) sound passes = λ us play. no_play P (whole_box_of P.vars) tree us sound play (whole_fits P us play) passes.0
 
 pub answered : (P : Problem) (certificate : Certificate) (us : List ℤ) → IsSound P → Passes P certificate → IsPlay P us → AnswersPlay P us certificate
 answered P (Optimal value legal policy refute) us sound passes play = right_reaches P sound value policy us passes.2 play
 answered P (Infeasible legal refute) us sound passes play = tt
+answered P (Empty tree) us sound passes play = tt

@@ -5,16 +5,20 @@ use Rattle.std.specs.Fmt.{decimal, signed_decimal}
 use Rattle.std.proofs.lemmas.List.{drop_more}
 use Rattle.qm_trees.specs.declared.policy.Policy.{Policy}
 use Rattle.qm_trees.specs.declared.policy.Policy.TheVariants.{Answer}
+use Rattle.qm_trees.specs.declared.empty.Empty.{Empty}
+use Rattle.qm_trees.specs.declared.empty.Empty.TheVariants.{Split}
+use Rattle.qm_trees.specs.declared.empty.EmptyPart.{EmptyPart}
+use Rattle.qm_trees.specs.declared.policy.Below.{Below}
+use Rattle.qm_trees.specs.declared.policy.Below.TheVariants.{On}
 use Rattle.qm_trees.specs.declared.policy.PolicyPart.{PolicyPart}
-use Rattle.qm_trees.specs.PolicyJudgement.{below_of}
 use Rattle.qm_trees.specs.declared.refutation.Refute.{Refute}
 use Rattle.qm_trees.specs.declared.refutation.Refute.TheVariants.{Over, Pick}
 use Rattle.qm_trees.specs.declared.refutation.RefutePart.{RefutePart}
 use Rattle.qm_certfile.specs.Lines.{Line, line_text, text_of}
 use Rattle.qm_certfile.specs.Styles.{first_style}
-use Rattle.qm_certfile.specs.TreeLines.{Lines, joined, policy_lines, policy_part_lines, refute_lines, refute_part_lines}
+use Rattle.qm_certfile.specs.TreeLines.{Lines, joined, below_lines, empty_lines, empty_part_lines, policy_lines, policy_part_lines, refute_lines, refute_part_lines}
 use Rattle.qm_certfile.proofs.LineTexts.{text_of_append, wrote}
-use Rattle.qm_certfile.proofs.TreeShapes.{answer_lines, policy_part_lines_is, over_lines, pick_lines}
+use Rattle.qm_certfile.proofs.TreeShapes.{answer_lines, on_lines, split_lines, over_lines, pick_lines}
 
 -- a part more
 pub part_wrote : {A : Type 0} (f : A → Lines) (parts : List A) (at : ℕ) (part : A) (old here new : List ℕ)
@@ -42,14 +46,18 @@ answer_wrote policy parts old mid new is e f place =
     line_wrote_then (codes "answer" ∷ decimal (length parts) ∷ []) (joined (map (policy_part_lines first_style) parts)) old mid new e f place (place + 1) (policy_lines first_style policy place)
     (ap (λ t. policy_lines first_style t place) is ∙ answer_lines first_style parts place)
 
-pub policy_part_wrote : (part : PolicyPart) (old mid new : List ℕ) {policy : Policy}
-    → mid ≡ old ++ line_text (codes "range" ∷ signed_decimal part.range.low ∷ signed_decimal part.range.high ∷ [])
-    → policy ≡ below_of part
-    → ((place : ℕ) → new ≡ mid ++ text_of (policy_lines first_style policy place))
-    → (place : ℕ) → new ≡ old ++ text_of (policy_part_lines first_style part place)
-policy_part_wrote part old mid new {policy} e is f place =
-    line_wrote_then (codes "range" ∷ signed_decimal part.range.low ∷ signed_decimal part.range.high ∷ []) (policy_lines first_style policy) old mid new e f place place
-    (policy_part_lines first_style part place) (policy_part_lines_is first_style part place ∙ ap (λ p. (codes "range" ∷ signed_decimal part.range.low ∷ signed_decimal part.range.high ∷ []) ∷ policy_lines first_style p place) (sym is))
+pub split_wrote : (tree : Empty) (var : ℕ) (parts : List EmptyPart) (old mid new : List ℕ) → tree ≡ Split var parts
+    → mid ≡ old ++ line_text (codes "split" ∷ decimal (var + 1) ∷ decimal (length parts) ∷ [])
+    → ((place : ℕ) → new ≡ mid ++ text_of (joined (map (empty_part_lines first_style) parts) place))
+    → (place : ℕ) → new ≡ old ++ text_of (empty_lines first_style tree place)
+split_wrote tree var parts old mid new is e f place =
+    line_wrote_then (codes "split" ∷ decimal (var + 1) ∷ decimal (length parts) ∷ []) (joined (map (empty_part_lines first_style) parts)) old mid new e f place place (empty_lines first_style tree place)
+    (ap (λ t. empty_lines first_style t place) is ∙ split_lines first_style var parts place)
+
+pub on_wrote : (below : Below) (policy : Policy) (old new : List ℕ) → below ≡ On policy → ((place : ℕ) → new ≡ old ++ text_of (policy_lines first_style policy place))
+    → (place : ℕ) → new ≡ old ++ text_of (below_lines first_style below place)
+on_wrote below policy old new is f place =
+    f place ∙ ap (λ ls. old ++ text_of ls) (sym (ap (λ b. below_lines first_style b place) is ∙ on_lines first_style policy place))
 
 pub over_wrote : (tree : Refute) (parts : List RefutePart) (old mid new : List ℕ) → tree ≡ Over parts
     → mid ≡ old ++ line_text (codes "over" ∷ decimal (length parts) ∷ [])

@@ -7,11 +7,11 @@ use Rattle.qm_model.specs.declared.game.Sense.{Sense}
 use Rattle.qm_model.specs.declared.game.Sense.TheVariants.{Max, Min}
 use Rattle.qm_model.specs.declared.game.Problem.{Problem}
 use Rattle.qm_certfile.specs.declared.certificate.Certificate.{Certificate}
-use Rattle.qm_certfile.specs.declared.certificate.Certificate.TheVariants.{Optimal, Infeasible}
+use Rattle.qm_certfile.specs.declared.certificate.Certificate.TheVariants.{Optimal, Infeasible, Empty}
 use Rattle.qm_text.specs.Numbers.{number_word}
 use Rattle.qm_certfile.specs.Lines.{Line, text_of}
 use Rattle.qm_certfile.specs.Styles.{Style, first_style}
-use Rattle.qm_certfile.specs.TreeLines.{policy_lines, refute_lines}
+use Rattle.qm_certfile.specs.TreeLines.{illegal_lines, policy_lines, refute_lines}
 
 -- a value of the maximised problem in the sense of the file
 abbrev pub claimed : Sense → Fraction → Fraction
@@ -36,6 +36,7 @@ certificate_lines style P (Optimal value legal policy refute) =
 certificate_lines style P (Infeasible legal refute) =
     alone (codes "infeasible") ∷ version_line style ∷ legal_line style legal
     ∷ alone (codes "refute") ∷ refute_lines style refute 0 ++ alone (codes "end") ∷ []
+certificate_lines style P (Empty tree) = alone (codes "empty") ∷ version_line style ∷ illegal_lines style tree 0 ++ alone (codes "end") ∷ []
 
 -- the text of a certificate in version 1
 unfoldable pub certificate_text : Problem → Certificate → List ℕ

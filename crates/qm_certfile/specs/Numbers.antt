@@ -5,6 +5,10 @@ use Rattle.qm_model.specs.declared.range.Range.{Range}
 use Rattle.qm_model.specs.declared.row_id.RowId.{RowId}
 use Rattle.qm_model.specs.declared.row_id.RowId.TheVariants as id
 use Rattle.qm_trees.specs.declared.combination.Entry.{Entry}
+use Rattle.qm_trees.specs.declared.empty.Empty.{Empty}
+use Rattle.qm_trees.specs.declared.empty.Empty.TheOpen as none
+use Rattle.qm_trees.specs.declared.empty.Empty.TheFolds.{fold-Empty, fold-EmptyPart}
+use Rattle.qm_trees.specs.declared.empty.EmptyPart.{EmptyPart}
 use Rattle.qm_trees.specs.declared.policy.Policy.{Policy}
 use Rattle.qm_trees.specs.declared.policy.Below.{Below}
 use Rattle.qm_trees.specs.declared.policy.Below.TheOpen as answer
@@ -15,7 +19,7 @@ use Rattle.qm_trees.specs.declared.refutation.Refute.TheOpen as why
 use Rattle.qm_trees.specs.declared.refutation.Refute.TheFolds.{fold-Refute, fold-RefutePart}
 use Rattle.qm_trees.specs.declared.refutation.RefutePart.{RefutePart}
 use Rattle.qm_certfile.specs.declared.certificate.Certificate.{Certificate}
-use Rattle.qm_certfile.specs.declared.certificate.Certificate.TheVariants.{Optimal, Infeasible}
+use Rattle.qm_certfile.specs.declared.certificate.Certificate.TheVariants as ending
 
 abbrev pub greatest : List ℕ → ℕ
 greatest [] = 0
@@ -37,6 +41,21 @@ greatest_of_entry e = max (number_of_row e.row) (greatest_of_fraction e.by)
 abbrev pub greatest_of_part : Range → ℕ → ℕ
 greatest_of_part r below = max (max (unsigned_abs r.low) (unsigned_abs r.high)) below
 
+-- ---- empty trees
+
+abbrev pub empty_number_step : none.Empty-F ℕ ℕ → ℕ
+empty_number_step (none.Split var parts) = max (var + 1) (max (length parts) (greatest parts))
+empty_number_step (none.Close combo) = greatest (map greatest_of_entry combo.entries)
+
+abbrev pub empty_part_number_step : none.EmptyPart-F ℕ ℕ → ℕ
+empty_part_number_step part = greatest_of_part part.range part.below
+
+abbrev pub greatest_in_empty : Empty → ℕ
+greatest_in_empty = fold-Empty ℕ ℕ empty_number_step empty_part_number_step
+
+abbrev pub greatest_in_empty_part : EmptyPart → ℕ
+greatest_in_empty_part = fold-EmptyPart ℕ ℕ empty_number_step empty_part_number_step
+
 -- ---- policies
 
 abbrev pub policy_number_step : answer.Policy-F ℕ ℕ ℕ → ℕ
@@ -49,6 +68,7 @@ policy_part_number_step part = greatest_of_part part.range part.below
 
 abbrev pub below_number_step : answer.Below-F ℕ ℕ ℕ → ℕ
 below_number_step (answer.On policy) = policy
+below_number_step (answer.Illegal tree) = greatest_in_empty tree
 
 abbrev pub greatest_in_policy : Policy → ℕ
 greatest_in_policy = fold-Policy ℕ ℕ ℕ below_number_step policy_number_step policy_part_number_step
@@ -78,6 +98,7 @@ greatest_in_refute_part = fold-RefutePart ℕ ℕ refute_number_step refute_part
 -- ---- certificates
 
 abbrev pub greatest_number : Certificate → ℕ
-greatest_number (Optimal value legal policy refute) =
+greatest_number (ending.Optimal value legal policy refute) =
     max (greatest_of_fraction value) (max (greatest (map unsigned_abs legal)) (max (greatest_in_policy policy) (greatest_in_refute refute)))
-greatest_number (Infeasible legal refute) = max (greatest (map unsigned_abs legal)) (greatest_in_refute refute)
+greatest_number (ending.Infeasible legal refute) = max (greatest (map unsigned_abs legal)) (greatest_in_refute refute)
+greatest_number (ending.Empty tree) = greatest_in_empty tree

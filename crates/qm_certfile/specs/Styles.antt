@@ -12,6 +12,8 @@ pub record Style : Type 0 where
   pub row_name : RowId → Word
   -- what names the variable of a place, before what is said of it
   pub variable : ℕ → List Word
+  -- the word for the variable of a split
+  pub split_variable : ℕ → Word
   -- the words of values of the universal variables from a place on
   pub universal_values : ℕ → List Word → List Word
   -- the words of values of the continuous variables
@@ -23,12 +25,13 @@ numbered (id.Row n) = codes "r" ++ decimal (n + 1)
 numbered (id.Uncertain n) = codes "u" ++ decimal (n + 1)
 numbered (id.Cut n) = codes "c" ++ decimal (n + 1)
 
--- version 1: rows by number, and variables by their place in the text alone
+-- version 1: rows by number, and variables by their place in the text alone, but for splits, which name the number
 abbrev pub first_style : Style
 first_style = record {
   version = codes "1";
   row_name = numbered;
   variable = λ place. [];
+  split_variable = λ var. decimal (var + 1);
   universal_values = λ place words. words;
   continuous_values = λ words. words;
 }

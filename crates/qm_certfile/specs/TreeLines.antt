@@ -3,9 +3,14 @@ use Rattle.std.specs.Prelude.{ℕ, ◌+◌, Bool, true, false, List, [], ◌∷�
 use Rattle.std.specs.Fmt.{decimal, signed_decimal}
 use Rattle.qm_model.specs.declared.range.Range.{Range}
 use Rattle.qm_trees.specs.declared.combination.Entry.{Entry}
+use Rattle.qm_trees.specs.declared.empty.Empty.{Empty}
+use Rattle.qm_trees.specs.declared.empty.Empty.TheOpen as none
+use Rattle.qm_trees.specs.declared.empty.Empty.TheFolds.{fold-Empty, fold-EmptyPart}
+use Rattle.qm_trees.specs.declared.empty.EmptyPart.{EmptyPart}
 use Rattle.qm_trees.specs.declared.policy.Policy.{Policy}
 use Rattle.qm_trees.specs.declared.policy.Below.TheOpen as answer
-use Rattle.qm_trees.specs.declared.policy.Below.TheFolds.{fold-Policy, fold-PolicyPart}
+use Rattle.qm_trees.specs.declared.policy.Below.{Below}
+use Rattle.qm_trees.specs.declared.policy.Below.TheFolds.{fold-Below, fold-Policy, fold-PolicyPart}
 use Rattle.qm_trees.specs.declared.policy.PolicyPart.{PolicyPart}
 use Rattle.qm_trees.specs.declared.refutation.Refute.{Refute}
 use Rattle.qm_trees.specs.declared.refutation.Refute.TheOpen as why
@@ -43,6 +48,26 @@ objective_words false = []
 abbrev pub close_line : Style → Combination → Line
 close_line style combo = codes "close" ∷ objective_words combo.objective ++ map (entry_word style) combo.entries
 
+-- ---- empty trees
+
+-- `split VARIABLE COUNT`, and the parts
+abbrev pub empty_step : Style → none.Empty-F Lines Lines → Lines
+empty_step style (none.Split var parts) place = (codes "split" ∷ style.split_variable var ∷ decimal (length parts) ∷ []) ∷ joined parts place
+empty_step style (none.Close combo) place = close_line style combo ∷ []
+
+abbrev pub empty_part_step : none.EmptyPart-F Lines Lines → Lines
+empty_part_step part = part_lines part.range part.below
+
+abbrev pub empty_lines : Style → Empty → Lines
+empty_lines style = fold-Empty Lines Lines (empty_step style) empty_part_step
+
+abbrev pub empty_part_lines : Style → EmptyPart → Lines
+empty_part_lines style = fold-EmptyPart Lines Lines (empty_step style) empty_part_step
+
+-- `illegal`, and the tree that shows it
+abbrev pub illegal_lines : Style → Empty → Lines
+illegal_lines style tree place = (codes "illegal" ∷ []) ∷ empty_lines style tree place
+
 -- ---- policies
 
 abbrev pub policy_step : Style → answer.Policy-F Lines Lines Lines → Lines
@@ -53,14 +78,18 @@ policy_step style (answer.Leaf point) place = (codes "leaf" ∷ style.continuous
 abbrev pub policy_part_step : answer.PolicyPart-F Lines Lines Lines → Lines
 policy_part_step part = part_lines part.range part.below
 
-abbrev pub below_step : answer.Below-F Lines Lines Lines → Lines
-below_step (answer.On policy) = policy
+abbrev pub below_step : Style → answer.Below-F Lines Lines Lines → Lines
+below_step style (answer.On policy) = policy
+below_step style (answer.Illegal tree) = illegal_lines style tree
 
 abbrev pub policy_lines : Style → Policy → Lines
-policy_lines style = fold-Policy Lines Lines Lines below_step (policy_step style) policy_part_step
+policy_lines style = fold-Policy Lines Lines Lines (below_step style) (policy_step style) policy_part_step
 
 abbrev pub policy_part_lines : Style → PolicyPart → Lines
-policy_part_lines style = fold-PolicyPart Lines Lines Lines below_step (policy_step style) policy_part_step
+policy_part_lines style = fold-PolicyPart Lines Lines Lines (below_step style) (policy_step style) policy_part_step
+
+abbrev pub below_lines : Style → Below → Lines
+below_lines style = fold-Below Lines Lines Lines (below_step style) (policy_step style) policy_part_step
 
 -- ---- refutations
 

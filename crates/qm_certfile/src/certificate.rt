@@ -1,6 +1,6 @@
 use qm_frac::Frac;
 use qm_io::List;
-use qm_trees::{Policy, Refute};
+use qm_trees::{Empty, Policy, Refute};
 
 /// How a game ends, with what shows it. Values are those of the maximised problem.
 #[derive(Debug, Drop)]
@@ -17,4 +17,6 @@ pub enum Certificate {
         legal: List<i64>,
         refute: Refute,
     },
+    /// Why there is no universal play.
+    Empty(Empty),
 }

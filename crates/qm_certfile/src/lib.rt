@@ -2,6 +2,7 @@
 #![tactic(auto)]
 
 mod certificate;
+mod empty_trees;
 mod endings;
 mod laws;
 mod lines;

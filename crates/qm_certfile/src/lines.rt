@@ -41,6 +41,17 @@ pub fn write_parts_line(word: &[u8], count: usize, out: &mut List<u8>) -> Result
     out.push(b'\n')
 }
 
+/// Appends the line of a split: the place of its variable, counted from 1, and a count.
+pub fn write_split(var: u32, count: usize, out: &mut List<u8>) -> Result<(), Memory>
+    ensures { OnOk result (out.new ≡ out.old ++ line_text (codes "split" ∷ decimal (var + 1) ∷ decimal count ∷ [])) }
+{
+    out.append(b"split ")?;
+    write_count(out, var as usize + 1)?;
+    out.push(b' ')?;
+    write_count(out, count)?;
+    out.push(b'\n')
+}
+
 /// Appends the line of a part's range.
 pub fn write_range(range: Range, out: &mut List<u8>) -> Result<(), Memory>
     ensures { OnOk result (out.new ≡ out.old ++ line_text (codes "range" ∷ signed_decimal range.low ∷ signed_decimal range.high ∷ [])) }

@@ -7,7 +7,7 @@ use super::*;
 use qm_frac::Frac;
 use qm_io::{List, Memory};
 use qm_model::{Game, Player, Problem, Range, Row, RowId, Sense, Term, Terms, Var};
-use qm_trees::{Below, Combo, Entry, Policy, PolicyPart, Refute, RefutePart};
+use qm_trees::{Below, Combo, Empty, EmptyPart, Entry, Policy, PolicyPart, Refute, RefutePart};
 use smallvec::SmallVec;
 use sqlite_items::{Boxed, Items};
 use std::alloc::{AllocError, Global};
@@ -213,6 +213,70 @@ fn a_negative_fraction(rt: HostRuntime) -> Result<(), Fail> {
     let text = write(rt.alloc(), &game, &certificate)?;
     let lines =
         b"optimal -1/3\ncertificate 1\nlegal\npolicy\nleaf 1/3 -4\nrefute\nclose o r1=2\nend\n";
+    assert!(rt; text.as_slice() == lines.as_slice());
+    Ok(())
+}
+
+// Splits the second variable, and closes by a row at each of its values.
+fn split_the_second(alloc: Global) -> Result<Empty, Memory> {
+    let mut parts = Items::new(alloc);
+    parts.push(EmptyPart {
+        range: single(0),
+        below: Empty::Close(by_uncertain(alloc, 1)?),
+    })?;
+    parts.push(EmptyPart {
+        range: single(1),
+        below: Empty::Close(by_uncertain(alloc, 0)?),
+    })?;
+    Ok(Empty::Split { var: 1, parts })
+}
+
+fn by_uncertain(alloc: Global, number: u32) -> Result<Combo, Memory> {
+    let mut combo = Combo::new(alloc, false);
+    combo.push(Entry {
+        row: RowId::Uncertain(number),
+        by: Frac::whole(1),
+    })?;
+    Ok(combo)
+}
+
+// Answers 0 by a leaf, and calls 1 illegal.
+fn partly_illegal(alloc: Global) -> Result<Certificate, Memory> {
+    let mut parts = Items::new(alloc);
+    parts.push(PolicyPart {
+        range: single(0),
+        below: Below::On(leaf(alloc)),
+    })?;
+    parts.push(PolicyPart {
+        range: single(1),
+        below: Below::Illegal(split_the_second(alloc)?),
+    })?;
+    Ok(Certificate::Optimal {
+        value: Frac::whole(0),
+        legal: List::new(alloc),
+        policy: Policy::Answer { parts },
+        refute: Refute::Close(Combo::new(alloc, true)),
+    })
+}
+
+#[test]
+fn an_illegal_part(rt: HostRuntime) -> Result<(), Fail> {
+    let game = game(rt.alloc(), Sense::Max)?;
+    let certificate = partly_illegal(rt.alloc())?;
+    let text = write(rt.alloc(), &game, &certificate)?;
+    let lines =
+        b"optimal 0\ncertificate 1\nlegal\npolicy\nanswer 2\nrange 0 0\nleaf\nrange 1 1\nillegal\nsplit 2 2\nrange 0 0\nclose u2=1\nrange 1 1\nclose u1=1\nrefute\nclose o\nend\n";
+    assert!(rt; text.as_slice() == lines.as_slice());
+    Ok(())
+}
+
+#[test]
+fn a_certificate_without_a_play(rt: HostRuntime) -> Result<(), Fail> {
+    let game = game(rt.alloc(), Sense::Max)?;
+    let certificate = Certificate::Empty(split_the_second(rt.alloc())?);
+    let text = write(rt.alloc(), &game, &certificate)?;
+    let lines =
+        b"empty\ncertificate 1\nillegal\nsplit 2 2\nrange 0 0\nclose u2=1\nrange 1 1\nclose u1=1\nend\n";
     assert!(rt; text.as_slice() == lines.as_slice());
     Ok(())
 }

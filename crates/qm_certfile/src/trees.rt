@@ -1,8 +1,9 @@
 ghost use Rattle.std.specs.Prelude.{◌≡◌, ◌++◌, ℕ, map, OnOk};
 ghost use Rattle.qm_certfile.specs.Lines.{text_of};
 ghost use Rattle.qm_certfile.specs.Styles.{first_style};
-ghost use Rattle.qm_certfile.specs.TreeLines.{joined, policy_lines, policy_part_lines, refute_lines, refute_part_lines};
+ghost use Rattle.qm_certfile.specs.TreeLines.{below_lines, joined, policy_lines, policy_part_lines, refute_lines, refute_part_lines};
 
+use crate::empty_trees::write_illegal;
 use crate::lines::{
     write_close, write_leaf, write_parts_line, write_pick, write_range, write_value,
 };
@@ -44,8 +45,18 @@ fn write_policy_part(part: &PolicyPart, out: &mut List<u8>) -> Result<(), Memory
     ensures { OnOk result ((place : ℕ) → out.new ≡ out.old ++ text_of (policy_part_lines first_style part.now place)) }
 {
     write_range(part.range, out)?;
-    let Below::On(policy) = &part.below;
-    write_policy(policy, out)
+    write_below(&part.below, out)
+}
+
+/// Appends the lines of what stands below a range.
+#[cycle(write_policies)]
+fn write_below(below: &Below, out: &mut List<u8>) -> Result<(), Memory>
+    ensures { OnOk result ((place : ℕ) → out.new ≡ out.old ++ text_of (below_lines first_style below.now place)) }
+{
+    match below {
+        Below::On(policy) => write_policy(policy, out),
+        Below::Illegal(tree) => write_illegal(tree, out),
+    }
 }
 
 /// Appends the lines of a refutation.

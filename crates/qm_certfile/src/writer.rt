@@ -2,17 +2,18 @@ ghost use Rattle.std.specs.Prelude.{◌≡◌, ◌++◌, ◌∷◌, [], codes, O
 ghost use Rattle.qm_text.specs.Numbers.{number_word};
 ghost use Rattle.qm_certfile.specs.Lines.{line_text, text_of};
 ghost use Rattle.qm_certfile.specs.Styles.{first_style};
-ghost use Rattle.qm_certfile.specs.TreeLines.{refute_lines};
+ghost use Rattle.qm_certfile.specs.TreeLines.{illegal_lines, refute_lines};
 ghost use Rattle.qm_certfile.specs.CertificateLines.{alone, certificate_text, claimed, legal_line, version_line};
 
 use crate::Certificate;
+use crate::empty_trees::write_illegal;
 use crate::lines::{write_alone, write_legal};
 use crate::trees::{write_policy, write_refute};
 use qm_frac::Frac;
 use qm_io::{List, Memory};
 use qm_model::{Game, Sense};
 use qm_text::write_frac;
-use qm_trees::Refute;
+use qm_trees::{Empty, Refute};
 use std::alloc::Global;
 
 /// The text of a certificate in version 1. `Memory`, where there is none for it.
@@ -46,6 +47,7 @@ fn write_onto(game: &Game, certificate: &Certificate, out: &mut List<u8>) -> Res
             write_begin(legal.as_slice(), out)?;
             write_refutation(refute, out)
         }
+        Certificate::Empty(tree) => write_no_play(tree, out),
     }
 }
 
@@ -75,6 +77,16 @@ fn write_begin(legal: &[i64], out: &mut List<u8>) -> Result<(), Memory>
 {
     write_alone(b"certificate 1", out)?;
     write_legal(legal, out)
+}
+
+/// Appends the text of the certificate that there is no universal play.
+fn write_no_play(tree: &Empty, out: &mut List<u8>) -> Result<(), Memory>
+    ensures { OnOk result (out.new ≡ out.old ++ text_of (alone (codes "empty") ∷ version_line first_style ∷ illegal_lines first_style tree.now 0 ++ alone (codes "end") ∷ [])) }
+{
+    write_alone(b"empty", out)?;
+    write_alone(b"certificate 1", out)?;
+    write_illegal(tree, out)?;
+    write_alone(b"end", out)
 }
 
 /// Appends the refutation, and the last line.

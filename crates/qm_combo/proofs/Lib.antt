@@ -3,3 +3,4 @@ pub mod NamedRows
 pub mod Steps
 pub mod Narrow
 pub mod EmptyRanges
+pub mod EmptyTests

@@ -1,5 +1,6 @@
 mod asserts;
 mod closings;
+mod empties;
 mod figures;
 mod games;
 mod leaving;

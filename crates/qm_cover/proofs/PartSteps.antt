@@ -95,3 +95,8 @@ line_right rule b v e = line_first rule (Ok b) v ∙ ap (λ c. first_of (Ok c) (
 
 pub line_wrong : (rule : Rule) (b : Bool) (v : Verdict) → b ≡ false → answer_of (line rule (Ok b) then v) ≡ Ok false
 line_wrong rule b v e = line_first rule (Ok b) v ∙ ap (λ c. first_of (Ok c) (answer_of v)) e
+
+-- what passes follows on
+pub passed_follows : (follows : Bool) (below : Checked Bool) → Ok true ≡ first_of (Ok follows) below → follows ≡ true
+passed_follows true below e = refl
+passed_follows false below e = cc

@@ -27,7 +27,6 @@ use Rattle.qm_trees.specs.declared.policy.PolicyPart.{PolicyPart}
 use Rattle.qm_trees.specs.declared.policy.Below.TheOpen as node
 use Rattle.qm_trees.specs.PolicyJudgement.{Layer, judge_move, judge_policy}
 use Rattle.qm_model.specs.declared.game.Problem.{Problem}
-use Rattle.qm_cover.proofs.PartSteps.{line_right, line_wrong}
 use Rattle.qm_policy.specs.Steps.{add_term}
 
 -- a whole number is in lowest terms
@@ -42,25 +41,16 @@ lowest_whole n = rw (gcd-one (unsigned_abs n), div-one, signed_abs) refl
 pub whole_in_range : (n : ℤ) → unsigned_abs n < 2 ^ 127 → IsInRange (lowest_terms n (pos 1))
 whole_in_range n h = in_range_small n 1 h (omega arith)
 
--- the parts, once their count is right
-pub parts_counted : {A : Type 0} (range_of : A → Range) (judge : A → Verdict) (covered : Range) (parts : List A) → counts_right covered (length parts) ≡ true
-    → answer_of (judge_parts range_of judge covered parts) ≡ answer_of (judge_each range_of judge covered.low covered.high parts)
-parts_counted range_of judge covered parts e = line_right rule.Cover (counts_right covered (length parts)) (judge_each range_of judge covered.low covered.high parts) e
-
-pub parts_miscounted : {A : Type 0} (range_of : A → Range) (judge : A → Verdict) (covered : Range) (parts : List A) → counts_right covered (length parts) ≡ false
-    → answer_of (judge_parts range_of judge covered parts) ≡ Ok false
-parts_miscounted range_of judge covered parts e = line_wrong rule.Cover (counts_right covered (length parts)) (judge_each range_of judge covered.low covered.high parts) e
-
 -- a policy that answers
 answers : (parts : List PolicyPart) → out-Policy (Answer parts) ≡ node.Answer parts
 answers parts = ap out-Policy (sym (rolls-Answer parts)) ∙ out-roll-Policy (node.Answer parts)
 
 pub answer_move : (P : Problem) (v : Fraction) (rest : List Var) (x : Var) (later : List Var) (depth : ℕ) (bx : List Range) (policy : Policy) (parts slice : List PolicyPart)
     → rest ≡ x ∷ later → policy ≡ Answer parts → slice ≡ parts
-    → answer_of (judge_move x depth (judge_policy P v later (depth + 1)) bx (node.Answer slice)) ≡ answer_of (judge_policy P v rest depth bx policy)
+    → answer_of (judge_move P x depth (judge_policy P v later (depth + 1)) bx (node.Answer slice)) ≡ answer_of (judge_policy P v rest depth bx policy)
 answer_move P v rest x later depth bx policy parts slice e is same =
-    ap (λ ps. answer_of (judge_move x depth (judge_policy P v later (depth + 1)) bx (node.Answer ps))) same
-    ∙ sym (ap (λ (layer : Layer). answer_of (judge_move x depth (judge_policy P v later (depth + 1)) bx layer)) (ap out-Policy is ∙ answers parts))
+    ap (λ ps. answer_of (judge_move P x depth (judge_policy P v later (depth + 1)) bx (node.Answer ps))) same
+    ∙ sym (ap (λ (layer : Layer). answer_of (judge_move P x depth (judge_policy P v later (depth + 1)) bx layer)) (ap out-Policy is ∙ answers parts))
     ∙ sym (ap (λ xs. answer_of (judge_policy P v xs depth bx policy)) e)
 
 -- ---- bounds

@@ -1,6 +1,8 @@
 // A policy of the problem "maximise x1 + 2 x3, where x1 + x2 + x3 <= 2", of three variables from 0 to 1, the second of
 // which the universal player sets: choose 0, answer each value, choose 1. It reaches 2.
 mod deep;
+mod illegal;
+mod pieces;
 
 ghost use Rattle.std.specs.Prelude.{◌≡◌, ◌∷◌, [], IfOk, pos, true};
 

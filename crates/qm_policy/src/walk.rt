@@ -1,32 +1,37 @@
-ghost use Rattle.std.specs.Prelude.{◌≡◌, ◌+◌, ◌<◌, [], length, slice_set, true, Ok};
-ghost use Rattle.qm_model.specs.Boxes.{IsBox, whole_box_of};
+ghost use Rattle.std.specs.Prelude.{◌≡◌, ◌+◌, ◌<◌, ℤ, List, [], length, slice_set, true, Ok};
+ghost use Rattle.qm_model.specs.Boxes.{IsBox, IsInside, whole_box_of};
 ghost use Rattle.qm_model.specs.Goals.{AtLeast};
 ghost use Rattle.qm_model.specs.Wins.{Wins};
 ghost use Rattle.qm_trees.specs.PolicyRight.{IsRightPolicy};
-ghost use Rattle.qm_model.specs.Plays.{whole_vars};
+ghost use Rattle.qm_model.specs.Plays.{IsPlay, whole_vars};
+ghost use Rattle.qm_trees.specs.Reaching.{PolicyReaches};
 ghost use Rattle.qm_trees.specs.declared.policy.Policy.{out-Policy};
 ghost use Rattle.qm_trees.specs.declared.policy.Below.TheOpen as node;
 ghost use Rattle.qm_trees.specs.Verdicts.{answer_of};
 ghost use Rattle.qm_trees.specs.Ranges.{judge_each, judge_parts, range_at};
-ghost use Rattle.qm_trees.specs.PolicyJudgement.{below_of, judge_end, judge_move, judge_policy, range_of};
-ghost use Rattle.qm_cover.specs.Places.{IsPlace};
+ghost use Rattle.qm_trees.specs.EmptyJudgement.{judge_empty};
+ghost use Rattle.qm_trees.specs.PolicyJudgement.{judge_end, judge_move, judge_policy, range_of};
+ghost use Rattle.qm_cover.specs.Places.{IsBoxPlace};
+ghost use Rattle.qm_policy.specs.Parts.{judge_part};
 ghost use Rattle.qm_cover.specs.Steps.{first_of};
 
 use crate::leaf::passes;
+use qm_combo::test_empty;
 use qm_cover::{
     after, contains, count_is_right, follows, is_for_all, is_last, range_in, single, start,
 };
 use qm_frac::{Frac, Leaves};
 use qm_game::{Bx, Game, Range, Var};
-use qm_trees::{Below, Policy, PolicyPart};
+use qm_trees::{Below, Empty, Policy, PolicyPart};
 
-/// Whether the policy reaches the value from each prefix in the box: each rule is met, in the order of the
-/// text. Leaves where the first operation leaves, if no rule is broken before. The box stays as it was. If the
-/// policy passes over the whole box, the existential player wins the value.
+/// Whether the policy reaches the value from each prefix in the box that universal plays have: each rule is met, in
+/// the order of the text. Leaves where the first operation leaves, if no rule is broken before. The box stays as it was. If the
+/// policy passes over the whole box, it reaches the value on each universal play, and the existential player wins it.
 pub fn test(game: &Game, bx: &mut Bx, value: &Frac, policy: &Policy) -> Result<bool, Leaves>
     requires { IsBox game.now.vars bx.old }
     ensures answer { result ≡ answer_of (judge_policy game.now value.now (whole_vars game.now) 0 bx.old policy.now) }
     ensures right { result ≡ Ok true → IsRightPolicy game.now value.now (whole_vars game.now) 0 bx.old policy.now }
+    ensures reaches { result ≡ Ok true → bx.old ≡ whole_box_of game.now.vars → (us : List ℤ) → IsPlay game.now us → PolicyReaches game.now value.now (whole_vars game.now) [] us policy.now }
     ensures wins { result ≡ Ok true → bx.old ≡ whole_box_of game.now.vars → Wins game.now [] (AtLeast value.now) }
     ensures same { bx.new ≡ bx.old }
 {
@@ -46,7 +51,7 @@ fn test_from(
     value: Frac,
     policy: &Policy,
 ) -> Result<bool, Leaves>
-    requires { IsPlace game.now rest.now depth bx.old }
+    requires { IsBoxPlace game.now rest.now depth bx.old }
     ensures answer { result ≡ answer_of (judge_policy game.now value rest.now depth bx.old policy.now) }
     ensures same { bx.new ≡ bx.old }
 {
@@ -81,8 +86,9 @@ fn test_below(
     range: Range,
     policy: &Policy,
 ) -> Result<bool, Leaves>
-    requires place { IsPlace game.now later.now (depth + 1) bx.old }
+    requires place { IsBoxPlace game.now later.now (depth + 1) bx.old }
     requires depth { depth < length bx.old }
+    requires inside { IsInside range (range_at bx.old depth) }
     ensures answer { result ≡ answer_of (judge_policy game.now value later.now (depth + 1) (slice_set bx.old depth range) policy.now) }
     ensures same { bx.new ≡ bx.old }
 {
@@ -93,7 +99,30 @@ fn test_below(
     answer
 }
 
-/// Whether the part's range follows on, and the policy below it passes.
+/// Whether the tree shows that no universal play has its values in the box, once the variable at the depth has this
+/// range.
+fn test_illegal(
+    game: &Game,
+    depth: usize,
+    bx: &mut Bx,
+    range: Range,
+    tree: &Empty,
+) -> Result<bool, Leaves>
+    requires bx { IsBox game.now.vars bx.old }
+    requires depth { depth < length bx.old }
+    requires inside { IsInside range (range_at bx.old depth) }
+    ensures answer { result ≡ answer_of (judge_empty game.now (whole_vars game.now) 0 (slice_set bx.old depth range) tree.now) }
+    ensures same { bx.new ≡ bx.old }
+{
+    let kept = range_in(bx.as_slice(), depth);
+    bx.set(depth, range);
+    let answer = test_empty(game, bx, tree);
+    bx.set(depth, kept);
+    answer
+}
+
+/// Whether the part's range follows on, and what stands below it passes: a policy, or a tree that shows that no
+/// universal play has its values there.
 #[cycle(test)]
 fn test_part(
     game: &Game,
@@ -104,19 +133,22 @@ fn test_part(
     follows: bool,
     part: &PolicyPart,
 ) -> Result<bool, Leaves>
-    requires place { IsPlace game.now later.now (depth + 1) bx.old }
+    requires place { IsBoxPlace game.now later.now (depth + 1) bx.old }
     requires depth { depth < length bx.old }
-    ensures answer { result ≡ first_of (Ok follows) (answer_of (judge_policy game.now value later.now (depth + 1) (slice_set bx.old depth (range_of part.now)) (below_of part.now))) }
+    requires inside { follows ≡ true → IsInside (range_of part.now) (range_at bx.old depth) }
+    ensures answer { result ≡ first_of (Ok follows) (answer_of (judge_part game.now value later.now depth bx.old part.now)) }
     ensures same { bx.new ≡ bx.old }
 {
     if !follows {
         return Ok(false);
     }
-    let Below::On(policy) = &part.below;
-    test_below(game, later, depth, bx, value, part.range, policy)
+    match &part.below {
+        Below::On(policy) => test_below(game, later, depth, bx, value, part.range, policy),
+        Below::Illegal(tree) => test_illegal(game, depth, bx, part.range, tree),
+    }
 }
 
-/// Whether the parts' ranges follow on from the low to the high end, and the policy below each passes.
+/// Whether the parts' ranges follow on from the low to the high end, and what stands below each passes.
 #[cycle(test)]
 fn test_each(
     game: &Game,
@@ -127,9 +159,10 @@ fn test_each(
     covered: Range,
     parts: &[PolicyPart],
 ) -> Result<bool, Leaves>
-    requires place { IsPlace game.now later.now (depth + 1) bx.old }
+    requires place { IsBoxPlace game.now later.now (depth + 1) bx.old }
     requires depth { depth < length bx.old }
-    ensures answer { result ≡ answer_of (judge_each range_of (λ part. judge_policy game.now value later.now (depth + 1) (slice_set bx.old depth (range_of part)) (below_of part)) covered.low covered.high parts.now) }
+    requires covered { covered ≡ range_at bx.old depth }
+    ensures answer { result ≡ answer_of (judge_each range_of (judge_part game.now value later.now depth bx.old) covered.low covered.high parts.now) }
     ensures same { bx.new ≡ bx.old }
 {
     let mut next = start(covered);
@@ -143,7 +176,7 @@ fn test_each(
     Ok(true)
 }
 
-/// Whether the parts cover the variable's range, and the policy below each passes.
+/// Whether the parts cover the variable's range, and what stands below each passes.
 #[cycle(test)]
 fn test_parts(
     game: &Game,
@@ -153,9 +186,9 @@ fn test_parts(
     value: Frac,
     parts: &[PolicyPart],
 ) -> Result<bool, Leaves>
-    requires place { IsPlace game.now later.now (depth + 1) bx.old }
+    requires place { IsBoxPlace game.now later.now (depth + 1) bx.old }
     requires depth { depth < length bx.old }
-    ensures answer { result ≡ answer_of (judge_parts range_of (λ part. judge_policy game.now value later.now (depth + 1) (slice_set bx.old depth (range_of part)) (below_of part)) (range_at bx.old depth) parts.now) }
+    ensures answer { result ≡ answer_of (judge_parts range_of (judge_part game.now value later.now depth bx.old) (range_at bx.old depth) parts.now) }
     ensures same { bx.new ≡ bx.old }
 {
     let covered = range_in(bx.as_slice(), depth);
@@ -176,9 +209,9 @@ fn test_answer(
     value: Frac,
     parts: &[PolicyPart],
 ) -> Result<bool, Leaves>
-    requires place { IsPlace game.now later.now (depth + 1) bx.old }
+    requires place { IsBoxPlace game.now later.now (depth + 1) bx.old }
     requires depth { depth < length bx.old }
-    ensures answer { result ≡ answer_of (judge_move var.now depth (judge_policy game.now value later.now (depth + 1)) bx.old (node.Answer parts.now)) }
+    ensures answer { result ≡ answer_of (judge_move game.now var.now depth (judge_policy game.now value later.now (depth + 1)) bx.old (node.Answer parts.now)) }
     ensures same { bx.new ≡ bx.old }
 {
     if !is_for_all(var) {

@@ -3,7 +3,6 @@ use Rattle.std.proofs.Common.{◌≡◌, ℕ, zero, suc, ◌+◌, ◌<◌, ◌�
 use Rattle.std.specs.Prelude.{nat_eq}
 use Rattle.std.proofs.lemmas.List.{drop_all, drop_more}
 use Rattle.std.proofs.lemmas.Bool.Decides.{nat_tests}
-use Rattle.qm_frac.specs.Checked.{Checked}
 use Rattle.qm_model.specs.declared.range.Range.{Range}
 use Rattle.qm_model.specs.declared.row.Row.{Row}
 use Rattle.qm_model.specs.declared.game.Problem.{Problem}
@@ -22,7 +21,6 @@ use Rattle.qm_trees.specs.Closing.{closing}
 use Rattle.qm_trees.specs.Verdicts.{answer_of}
 use Rattle.qm_trees.specs.RefuteJudgement.{Layer, all_named, closes_here, judge_move, judge_refute}
 use Rattle.qm_trees.proofs.Multipliers.{entries_all_positive}
-use Rattle.qm_cover.specs.Steps.{first_of}
 
 -- ---- closing
 
@@ -79,8 +77,3 @@ over_move P cuts G rest x later depth bx tree parts slice e is same =
     ap (λ ps. move (node.Over ps)) same
     ∙ sym (ap move (ap out-Refute is ∙ overs parts))
     ∙ sym (ap (λ xs. answer_of (judge_refute P cuts [] G xs depth bx tree)) e)
-
--- what passes follows on
-pub passed_follows : (follows : Bool) (below : Checked Bool) → Ok true ≡ first_of (Ok follows) below → follows ≡ true
-passed_follows true below e = refl
-passed_follows false below e = cc

@@ -47,7 +47,7 @@ fn fits(vars: &[Var], ranges: &[Range], completion: &[i64]) -> bool
 
 /// Whether the universal player sets the variable at the depth, the value lies in its range, and there is one value
 /// in range for each later universal variable.
-pub fn can_pick(
+pub fn fits_pick(
     var: &Var,
     later: &[Var],
     depth: usize,

@@ -2,6 +2,7 @@
 //! that is narrowed put back.
 #![tactic(auto)]
 
+mod allowed;
 mod closing;
 mod completion;
 mod counts;

@@ -1,6 +1,8 @@
 // A refutation of the problem "maximise x1 + 2 x3, where x1 + x2 + x3 <= 2", of three variables from 0 to 1, the second
 // of which the universal player sets: at x1 = 0 the objective alone is at most 2, at x1 = 1 the universal player picks
 // x2 = 1, and twice the row leaves at most 1. So more than 2 can't be reached.
+mod picks;
+
 ghost use Rattle.std.specs.Prelude.{◌≡◌, ◌∷◌, [], IfOk, pos, true};
 
 use super::*;
@@ -44,9 +46,7 @@ fn objective(alloc: Global) -> Result<Terms, Memory>
     Ok(Terms::new(terms))
 }
 
-fn small_game(alloc: Global) -> Result<Game, Memory>
-    ensures { IfOk result (λ game. game.urows ≡ []) }
-{
+fn small_game(alloc: Global) -> Result<Game, Memory> {
     let mut vars = List::new(alloc);
     vars.push(binary(alloc, Player::Exists))?;
     vars.push(binary(alloc, Player::All))?;

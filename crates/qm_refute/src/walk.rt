@@ -14,11 +14,11 @@ ghost use Rattle.qm_trees.specs.Verdicts.{answer_of};
 ghost use Rattle.qm_trees.specs.Ranges.{judge_each, range_at};
 ghost use Rattle.qm_trees.specs.RefuteJudgement.{below_of, judge_end, judge_move, judge_refute, range_of};
 ghost use Rattle.qm_trees.specs.RefuteRight.{IsRightRefutation};
+ghost use Rattle.qm_cover.specs.Places.{IsBoxPlace};
 ghost use Rattle.qm_cover.specs.Steps.{first_of};
-ghost use Rattle.qm_refute.specs.Places.{IsBoxPlace};
 
+use crate::allowed::can_pick;
 use crate::closing::closes_here;
-use crate::completion::can_pick;
 use crate::counts::counts_over;
 use qm_cover::{after, follows, is_last, range_in, single, start};
 use qm_frac::Leaves;
@@ -37,7 +37,6 @@ pub fn test(
     goal: &Goal,
     tree: &Refute,
 ) -> Result<bool, Leaves>
-    requires plain { game.now.urows ≡ [] }
     requires cuts { All (IsRowOver game.now.vars) cuts.now }
     requires depth { depth ≤ game.now.wholes }
     requires bx { IsBox game.now.vars bx.old }
@@ -72,7 +71,6 @@ fn test_from(
     bx: &mut Bx,
     tree: &Refute,
 ) -> Result<bool, Leaves>
-    requires plain { game.now.urows ≡ [] }
     requires cuts { All (IsRowOver game.now.vars) cuts.now }
     requires place { IsBoxPlace game.now rest.now depth bx.old }
     ensures answer { result ≡ answer_of (judge_refute game.now cuts.now [] (goal_of goal.now) rest.now depth bx.old tree.now) }
@@ -97,14 +95,7 @@ fn test_from(
                 completion,
                 below,
             } => {
-                if !can_pick(
-                    var,
-                    later,
-                    depth,
-                    bx.as_slice(),
-                    *value,
-                    completion.as_slice(),
-                ) {
+                if !can_pick(game, var, later, depth, bx, *value, completion.as_slice()) {
                     return Ok(false);
                 }
                 test_below(
@@ -146,7 +137,6 @@ fn test_below(
     range: Range,
     tree: &Refute,
 ) -> Result<bool, Leaves>
-    requires plain { game.now.urows ≡ [] }
     requires cuts { All (IsRowOver game.now.vars) cuts.now }
     requires place { IsBoxPlace game.now later.now (depth + 1) bx.old }
     requires depth { depth < length bx.old }
@@ -173,7 +163,6 @@ fn test_part(
     follows: bool,
     part: &RefutePart,
 ) -> Result<bool, Leaves>
-    requires plain { game.now.urows ≡ [] }
     requires cuts { All (IsRowOver game.now.vars) cuts.now }
     requires place { IsBoxPlace game.now later.now (depth + 1) bx.old }
     requires depth { depth < length bx.old }
@@ -199,7 +188,6 @@ fn test_each(
     covered: Range,
     parts: &[RefutePart],
 ) -> Result<bool, Leaves>
-    requires plain { game.now.urows ≡ [] }
     requires cuts { All (IsRowOver game.now.vars) cuts.now }
     requires place { IsBoxPlace game.now later.now (depth + 1) bx.old }
     requires depth { depth < length bx.old }
@@ -230,7 +218,6 @@ fn test_over(
     bx: &mut Bx,
     parts: &[RefutePart],
 ) -> Result<bool, Leaves>
-    requires plain { game.now.urows ≡ [] }
     requires cuts { All (IsRowOver game.now.vars) cuts.now }
     requires place { IsBoxPlace game.now later.now (depth + 1) bx.old }
     requires depth { depth < length bx.old }

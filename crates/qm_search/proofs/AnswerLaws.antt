@@ -15,13 +15,13 @@ use Rattle.qm_trees.specs.declared.policy.Below.TheOpen as policy_node
 use Rattle.qm_trees.specs.declared.policy.PolicyPart.{PolicyPart}
 use Rattle.qm_trees.specs.declared.refutation.Refute.{Refute}
 use Rattle.qm_trees.specs.Ranges.{range_at, single}
-use Rattle.qm_trees.specs.PolicyJudgement.{range_of, below_of}
+use Rattle.qm_trees.specs.PolicyJudgement.{BelowLayer, range_of, below_of}
 use Rattle.qm_trees.specs.PolicyRight as policy_right
 use Rattle.qm_trees.specs.PolicyRight.{IsRightPolicy, IsPolicyInRange}
 use Rattle.qm_trees.proofs.SmallerValues.{right_at_less, in_range_at}
 use Rattle.qm_search.specs.declared.answers.Answers.{Answers}
 use Rattle.qm_search.specs.Answers.{AreAnswers}
-use Rattle.qm_search.specs.Outcomes.{IsReached, Secures}
+use Rattle.qm_search.specs.Outcomes.{IsReached, Secures, SecuresBelow}
 use Rattle.qm_search.specs.Parts.{AreSingles}
 use Rattle.qm_search.proofs.SingleParts.{push_singles, singles_cover}
 
@@ -33,28 +33,37 @@ secures_less P rest depth bx v w policy positive less secures = record {
   in_range = in_range_at P v w rest depth bx policy secures.in_range;
 }
 
+-- so does what stands below a range
+below_less : (P : Problem) (rest : List Var) (depth : ℕ) (bx : List Range) (v w : Fraction) (layer : BelowLayer) → HasPositiveDen v → IsAtMost w v → SecuresBelow P rest depth bx v layer
+    → SecuresBelow P rest depth bx w layer
+below_less P rest depth bx v w (policy_node.On policy) positive less secures =
+    let policy_secures = secures_less P rest depth bx v w policy positive less (record { right = secures.right; in_range = secures.in_range }) in
+    record { right = policy_secures.right; in_range = policy_secures.in_range }
+below_less P rest depth bx v w (policy_node.Illegal tree) positive less secures = record { right = secures.right; in_range = secures.in_range }
+
 module _ (P : Problem) (later : List Var) (depth : ℕ) (bx : List Range) where
   -- the value is reached below the part
   abbrev IsSecured : Fraction → PolicyPart → Type 0
-  IsSecured v part = Secures P later (depth + 1) (slice_set bx depth (range_of part)) v (below_of part)
+  IsSecured v part = SecuresBelow P later (depth + 1) (slice_set bx depth (range_of part)) v (below_of part)
 
-  part_secured : (value : ℤ) (v w : Fraction) (part : PolicyPart) (policy : Policy) → HasPositiveDen v → IsAtMost w v → range_of part ≡ single value → below_of part ≡ policy
+  part_secured : (value : ℤ) (v w : Fraction) (part : PolicyPart) (policy : Policy) → HasPositiveDen v → IsAtMost w v → range_of part ≡ single value → below_of part ≡ policy_node.On policy
       → Secures P later (depth + 1) (slice_set bx depth (single value)) v policy → IsSecured w part
   part_secured value v w part policy positive less range is secures =
-      secures_less P later (depth + 1) (slice_set bx depth (range_of part)) v w (below_of part) positive less
-      (subst (λ r. Secures P later (depth + 1) (slice_set bx depth r) v (below_of part)) (sym range) (subst (Secures P later (depth + 1) (slice_set bx depth (single value)) v) (sym is) secures))
+      below_less P later (depth + 1) (slice_set bx depth (range_of part)) v w (below_of part) positive less
+      (subst (λ r. SecuresBelow P later (depth + 1) (slice_set bx depth r) v (below_of part)) (sym range)
+      (subst (SecuresBelow P later (depth + 1) (slice_set bx depth (single value)) v) (sym is) (record { right = secures.right; in_range = secures.in_range })))
 
   -- one part more, at a value that is no greater than what each reaches
   parts_push : (value : ℤ) (u v w : Fraction) (parts : List PolicyPart) (part : PolicyPart) (policy : Policy) → HasPositiveDen u → HasPositiveDen v → IsAtMost w u → IsAtMost w v
-      → All (IsSecured u) parts → range_of part ≡ single value → below_of part ≡ policy → Secures P later (depth + 1) (slice_set bx depth (single value)) v policy
+      → All (IsSecured u) parts → range_of part ≡ single value → below_of part ≡ policy_node.On policy → Secures P later (depth + 1) (slice_set bx depth (single value)) v policy
       → All (IsSecured w) (parts ++ part ∷ [])
   parts_push value u v w parts part policy proper proper' less less' below range is secures =
       All-push (IsSecured w) parts part
-      (λ k d h. secures_less P later (depth + 1) (slice_set bx depth (range_of (get_or parts k d))) u w (below_of (get_or parts k d)) proper less (below k d h))
+      (λ k d h. below_less P later (depth + 1) (slice_set bx depth (range_of (get_or parts k d))) u w (below_of (get_or parts k d)) proper less (below k d h))
       (part_secured value v w part policy proper' less' range is secures)
 
   module _ (next : ℤ) (value : Fraction) (policy : Policy) (tree : Refute) (reached : IsReached P later (depth + 1) (slice_set bx depth (single next)) value policy tree) (parts : List PolicyPart) (part : PolicyPart) (range : range_of part ≡ single next)
-      (is : below_of part ≡ policy) where
+      (is : below_of part ≡ policy_node.On policy) where
     module _ (low : ℤ) (from : low ≤ℤ next) (answers : Answers) (are : AreAnswers P later depth bx low next answers) (pushed : parts ≡ answers.parts ++ part ∷ []) where
       pushed_singles : AreSingles low (next +ℤ pos 1) (map range_of parts)
       pushed_singles = subst (λ ps. AreSingles low (next +ℤ pos 1) (map range_of ps)) (sym pushed) (push_singles range_of low next answers.parts part range are.singles)
@@ -93,7 +102,7 @@ module _ (P : Problem) (later : List Var) (depth : ℕ) (bx : List Range) where
     pub answer_secures : (v : Fraction) (parts : List PolicyPart) → AreSingles (range_at bx depth).low ((range_at bx depth).high +ℤ pos 1) (map range_of parts)
         → All (IsSecured v) parts → Secures P (x ∷ later) depth bx v (Answer parts)
     answer_secures v parts singles below = record {
-      right = subst (policy_right.IsRightMove x depth (IsRightPolicy P v later (depth + 1)) bx) (sym (answers_is parts))
+      right = subst (policy_right.IsRightMove P x depth (IsRightPolicy P v later (depth + 1)) bx) (sym (answers_is parts))
           (player, singles_cover (range_at bx depth) (map range_of parts) singles, (λ k d h. (below k d h).right));
-      in_range = subst (policy_right.IsMoveInRange depth (IsPolicyInRange P v later (depth + 1)) bx) (sym (answers_is parts)) (λ k d h. (below k d h).in_range);
+      in_range = subst (policy_right.IsMoveInRange P depth (IsPolicyInRange P v later (depth + 1)) bx) (sym (answers_is parts)) (λ k d h. (below k d h).in_range);
     }

@@ -135,9 +135,9 @@ module _ (P : Problem) (later : List Var) (depth : ℕ) (bx : List Range) where
         let tried : IsBest P later depth bx (range_at bx depth).low ((range_at bx depth).high +ℤ pos 1) (Some best) =
         subst (IsBest P later depth bx (range_at bx depth).low ((range_at bx depth).high +ℤ pos 1)) e are.best in
         let secures : Secures P (x ∷ later) depth bx best.value (Choose best.choice best.policy) = record {
-          right = subst (policy_right.IsRightMove x depth (IsRightPolicy P best.value later (depth + 1)) bx) (sym (chooses best.choice best.policy))
+          right = subst (policy_right.IsRightMove P x depth (IsRightPolicy P best.value later (depth + 1)) bx) (sym (chooses best.choice best.policy))
               (player, (tried.from, omega (arith, ints, tried.before)), tried.secures.right);
-          in_range = subst (policy_right.IsMoveInRange depth (IsPolicyInRange P best.value later (depth + 1)) bx) (sym (chooses best.choice best.policy)) tried.secures.in_range;
+          in_range = subst (policy_right.IsMoveInRange P depth (IsPolicyInRange P best.value later (depth + 1)) bx) (sym (chooses best.choice best.policy)) tried.secures.in_range;
         } in
         record {
           positive = tried.positive;

@@ -7,7 +7,8 @@ use Rattle.qm_model.specs.declared.game.Problem.{Problem}
 use Rattle.qm_model.specs.Goals.{Goal, Any, Above}
 use Rattle.qm_trees.specs.declared.policy.Policy.{Policy}
 use Rattle.qm_trees.specs.declared.refutation.Refute.{Refute}
-use Rattle.qm_trees.specs.PolicyRight.{IsRightPolicy, IsPolicyInRange}
+use Rattle.qm_trees.specs.PolicyJudgement.{BelowLayer}
+use Rattle.qm_trees.specs.PolicyRight.{IsRightBelow, IsRightPolicy, IsBelowInRange, IsPolicyInRange}
 use Rattle.qm_trees.specs.RefuteRight.{IsRightRefutation, IsRefutationInRange}
 use Rattle.qm_search.specs.declared.outcome.Outcome.{Outcome}
 use Rattle.qm_search.specs.declared.outcome.Outcome.TheVariants.{Lost, Reached}
@@ -16,6 +17,11 @@ use Rattle.qm_search.specs.declared.outcome.Outcome.TheVariants.{Lost, Reached}
 pub record Secures (P : Problem) (rest : List Var) (depth : ℕ) (bx : List Range) (v : Fraction) (policy : Policy) : Type 0 where
   pub right : IsRightPolicy P v rest depth bx policy
   pub in_range : IsPolicyInRange P v rest depth bx policy
+
+-- what stands below a range is right at the value, and no operation leaves
+pub record SecuresBelow (P : Problem) (rest : List Var) (depth : ℕ) (bx : List Range) (v : Fraction) (layer : BelowLayer) : Type 0 where
+  pub right : IsRightBelow P (IsRightPolicy P v rest depth) bx layer
+  pub in_range : IsBelowInRange P (IsPolicyInRange P v rest depth) bx layer
 
 -- the refutation of the goal is right, without cuts and lemmas, and no operation leaves
 pub record Refutes (P : Problem) (rest : List Var) (depth : ℕ) (bx : List Range) (G : Goal) (tree : Refute) : Type 0 where

@@ -7,6 +7,7 @@ ghost use Rattle.qm_model.specs.declared.variable.Var.{Var};
 ghost use Rattle.qm_model.specs.Boxes.{whole_box_of};
 ghost use Rattle.qm_model.specs.Goals.{Goal};
 ghost use Rattle.qm_trees.specs.Ranges.{range_at, single};
+ghost use Rattle.qm_trees.specs.declared.policy.Below.TheOpen as node;
 ghost use Rattle.qm_trees.specs.PolicyJudgement.{below_of, range_of};
 ghost use Rattle.qm_search.specs.Answers.{AreAnswers};
 ghost use Rattle.qm_search.specs.Outcomes.{IsOutcome, IsReached, Refutes};
@@ -122,7 +123,7 @@ impl Answers {
 /// The part of this value alone.
 fn part(value: i64, below: Policy) -> PolicyPart
     ensures range { range_of result ≡ single value }
-    ensures below { below_of result ≡ below }
+    ensures below { below_of result ≡ node.On below }
 {
     PolicyPart {
         range: single(value),

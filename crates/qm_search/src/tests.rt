@@ -62,11 +62,11 @@ fn small_game(alloc: Global) -> Result<Game, Memory>
 // The value, and the choice that the policy begins with.
 fn value_and_choice(certificate: &Certificate) -> Option<(Frac, i64)> {
     match certificate {
-        Certificate::Infeasible { .. } => None,
         Certificate::Optimal { value, policy, .. } => match policy {
             Policy::Choose { value: choice, .. } => Some((*value, *choice)),
             _ => None,
         },
+        _ => None,
     }
 }
 

@@ -69,7 +69,7 @@ form_of_den k var (r ∷ bx) [] h inside = absurd inside
 form_of_den k var (r ∷ bx) (x ∷ xs) h inside =
     sum_of_den (product_of (k var) x) (form_of k (suc var) xs) (product_of_den (k var) x (h var) inside.0) (form_of_den k (suc var) bx xs h inside.2)
 
-form_of-nothing : (var : ℕ) (xs : List Fraction) → IsSame (form_of (λ n. whole (pos 0)) var xs) (whole (pos 0))
+pub form_of-nothing : (var : ℕ) (xs : List Fraction) → IsSame (form_of (λ n. whole (pos 0)) var xs) (whole (pos 0))
 form_of-nothing var [] = refl
 form_of-nothing var (x ∷ xs) = nothing_step x (form_of (λ n. whole (pos 0)) (suc var) xs) (form_of-nothing (suc var) xs)
 
@@ -80,7 +80,7 @@ form_of-combined k f g var (x ∷ xs) =
     combined_step k (f var) (g var) x (form_of (λ n. sum_of (product_of k (f n)) (g n)) (suc var) xs) (form_of f (suc var) xs) (form_of g (suc var) xs)
     (form_of-combined k f g (suc var) xs)
 
-form_of-difference : (f g : ℕ → Fraction) (var : ℕ) (xs : List Fraction)
+pub form_of-difference : (f g : ℕ → Fraction) (var : ℕ) (xs : List Fraction)
     → IsSame (form_of (λ n. difference_of (f n) (g n)) var xs) (difference_of (form_of f var xs) (form_of g var xs))
 form_of-difference f g var [] = same_from [] (number (pos 0)) (number (pos 0) ⊕ minus (number (pos 0))) [] tt refl
 form_of-difference f g var (x ∷ xs) =
@@ -131,7 +131,7 @@ combined_right_den (w ∷ ws) h =
     (combined_right_den ws (All-tail (λ (w : Weighted). 0 < w.by.den) w ws h))
 
 -- the rows that hold at a point, combined
-rows_at_most : (bx : List Range) (xs : List Fraction) (ws : List Weighted) → IsInBox bx xs
+pub rows_at_most : (bx : List Range) (xs : List Fraction) (ws : List Weighted) → IsInBox bx xs
     → All (λ (w : Weighted). 0 < w.by.den) ws → All (λ (w : Weighted). IsAtMost (whole (pos 0)) w.by) ws → All (λ (w : Weighted). HoldsAt xs w.row) ws
     → IsAtMost (form_of (combined_row_at ws) 0 xs) (combined_right ws)
 rows_at_most bx xs [] inside dens more holds = at_most-same (form_of (λ n. whole (pos 0)) 0 xs) (whole (pos 0)) (form_of-nothing 0 xs)

@@ -3,6 +3,7 @@ pub mod Moves
 pub mod CoverLines
 pub mod LeafLines
 pub mod PolicyLines
+pub mod FoundParts
 pub mod LeafPoints
 pub mod WholeLeaves
 pub mod PolicyReaches
@@ -20,3 +21,4 @@ pub mod HarderGoals
 pub mod EmptyLines
 pub mod PickedPlays
 pub mod RefutationsRefuse
+pub mod EmptySound

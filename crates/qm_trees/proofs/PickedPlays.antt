@@ -1,5 +1,5 @@
 -- A value and a completion that fit a box on which the uncertainty rows hold are a play, so the value keeps the prefix legal.
-use Rattle.std.proofs.Common.{◌≡◌, ℕ, zero, suc, ◌≤◌, List, [], ◌∷◌, ◌++◌, length, get_or, take, drop, All, ℤ, pos, arith}
+use Rattle.std.proofs.Common.{◌≡◌, ℕ, zero, suc, ◌≤◌, List, [], ◌∷◌, ◌++◌, length, get_or, set, take, drop, All, ℤ, pos, arith}
 use Rattle.std.specs.Prelude.{filter}
 use Rattle.std.proofs.lemmas.Int.{ints}
 use Rattle.std.proofs.lemmas.List.{length-take}
@@ -24,13 +24,13 @@ use Rattle.qm_trees.specs.Ranges.{single}
 -- ---- values that fit
 
 -- where the next variable is existential, or universal
-fit_skip : (x : Var) (xs : List Var) (r : Range) (bx : List Range) (us : List ℤ) → x.player ≡ Exists → Fit (x ∷ xs) (r ∷ bx) us → Fit xs bx us
+pub fit_skip : (x : Var) (xs : List Var) (r : Range) (bx : List Range) (us : List ℤ) → x.player ≡ Exists → Fit (x ∷ xs) (r ∷ bx) us → Fit xs bx us
 fit_skip x xs r bx us existential h = rw existential at h
 
-skip_fits : (x : Var) (xs : List Var) (r : Range) (bx : List Range) (us : List ℤ) → x.player ≡ Exists → Fit xs bx us → Fit (x ∷ xs) (r ∷ bx) us
+pub skip_fits : (x : Var) (xs : List Var) (r : Range) (bx : List Range) (us : List ℤ) → x.player ≡ Exists → Fit xs bx us → Fit (x ∷ xs) (r ∷ bx) us
 skip_fits x xs r bx us existential h = rw existential h
 
-fit_next : (x : Var) (xs : List Var) (r : Range) (bx : List Range) (us : List ℤ) → x.player ≡ Universal → Fit (x ∷ xs) (r ∷ bx) us → FitNext r us (Fit xs bx)
+pub fit_next : (x : Var) (xs : List Var) (r : Range) (bx : List Range) (us : List ℤ) → x.player ≡ Universal → Fit (x ∷ xs) (r ∷ bx) us → FitNext r us (Fit xs bx)
 fit_next x xs r bx us universal h = rw universal at h
 
 pub next_fits : (x : Var) (xs : List Var) (r : Range) (bx : List Range) (us : List ℤ) → x.player ≡ Universal → FitNext r us (Fit xs bx) → Fit (x ∷ xs) (r ∷ bx) us
@@ -40,7 +40,7 @@ pub between_itself : (v : ℤ) → IsBetween (single v).low (single v).high v
 between_itself v = (omega (arith, ints), omega (arith, ints))
 
 -- values that fit the next range and the others, by what the first of them and the others give
-next_gives : (r : Range) (us : List ℤ) (Others R : List ℤ → Type 0) → FitNext r us Others → ((u : ℤ) (later : List ℤ) → IsBetween r.low r.high u → Others later → R (u ∷ later)) → R us
+pub next_gives : (r : Range) (us : List ℤ) (Others R : List ℤ → Type 0) → FitNext r us Others → ((u : ℤ) (later : List ℤ) → IsBetween r.low r.high u → Others later → R (u ∷ later)) → R us
 next_gives r [] Others R h f = absurd h
 next_gives r (u ∷ us) Others R h f = f u us h.0 h.1
 
@@ -54,7 +54,7 @@ fit_long (x ∷ xs) (r ∷ bx) us h =
     (λ u later has others. omega (arith, fit_long xs bx later others)))
 
 -- the value at a place lies in the range there
-abbrev IsInAt : List Range → List ℤ → ℕ → Range → Type 0
+abbrev pub IsInAt : List Range → List ℤ → ℕ → Range → Type 0
 IsInAt bx values i r = IsBetween (get_or bx i r).low (get_or bx i r).high (get_or values i (pos 0))
 
 in_at_skip : (x : Var) (xs : List Var) (q : Range) (bx : List Range) (us : List ℤ) (i : ℕ) (r : Range) → x.player ≡ Exists → IsUniversalAt (x ∷ xs) i
@@ -68,7 +68,7 @@ in_at_next x xs q bx u us zero r universal has at later = rw (spread-here x xs u
 in_at_next x xs q bx u us (suc i) r universal has at later = rw (spread-here x xs u us (is_for_all x universal)) (later i at)
 
 -- a universal variable's value lies in its range
-fit_at : (xs : List Var) (bx : List Range) (us : List ℤ) (i : ℕ) (r : Range) → Fit xs bx us → IsUniversalAt xs i → IsInAt bx (spread xs us) i r
+pub fit_at : (xs : List Var) (bx : List Range) (us : List ℤ) (i : ℕ) (r : Range) → Fit xs bx us → IsUniversalAt xs i → IsInAt bx (spread xs us) i r
 fit_at [] bx us i r h at = absurd at
 fit_at (x ∷ xs) [] us i r h at = absurd h
 fit_at (x ∷ xs) (q ∷ bx) us i r h at =
@@ -87,6 +87,43 @@ fit_within (x ∷ xs) more us h =
     (λ universal. rw (is_for_all x universal)
     (next_gives (bounds_of x) us (Fit xs (whole_box_of (xs ++ more))) (AreWithin (x ∷ filter is_universal xs)) (fit_next x xs (bounds_of x) (whole_box_of (xs ++ more)) us universal h)
     (λ u later has others. (has, fit_within xs more later others))))
+
+-- and the other way round
+pub within_fits : (xs more : List Var) (us : List ℤ) → AreWithin (filter is_universal xs) us → Fit xs (whole_box_of (xs ++ more)) us
+within_fits [] more [] h = tt
+within_fits [] more (u ∷ us) h = absurd h
+within_fits (x ∷ xs) more us h =
+    by_player x (Fit (x ∷ xs) (whole_box_of (x ∷ xs ++ more)) us)
+    (λ existential.
+    let later : AreWithin (filter is_universal xs) us = rw (not_universal x existential) at h in
+    skip_fits x xs (bounds_of x) (whole_box_of (xs ++ more)) us existential (within_fits xs more us later))
+    (λ universal.
+    let here : AreWithin (x ∷ filter is_universal xs) us = rw (is_for_all x universal) at h in
+    next_fits x xs (bounds_of x) (whole_box_of (xs ++ more)) us universal (first us here (λ vs k. within_fits xs more vs k)))
+  where
+    first : (vs : List ℤ) → AreWithin (x ∷ filter is_universal xs) vs → ((ws : List ℤ) → AreWithin (filter is_universal xs) ws → Fit xs (whole_box_of (xs ++ more)) ws)
+        → FitNext (bounds_of x) vs (Fit xs (whole_box_of (xs ++ more)))
+    first [] h later = absurd h
+    first (u ∷ vs) h later = (h.0, later vs h.1)
+
+-- values that fit a box fit it where another range that has its variable's value stands in the place of one
+pub fit_set : (xs : List Var) (bx : List Range) (us : List ℤ) (i : ℕ) (r : Range) → Fit xs bx us → IsBetween r.low r.high (get_or (spread xs us) i (pos 0)) → Fit xs (set bx i r) us
+fit_set [] bx [] i r h has = tt
+fit_set [] bx (u ∷ us) i r h has = absurd h
+fit_set (x ∷ xs) [] us i r h has = absurd h
+fit_set (x ∷ xs) (q ∷ bx) us zero r h has =
+    by_player x (Fit (x ∷ xs) (r ∷ bx) us)
+    (λ existential. skip_fits x xs r bx us existential (fit_skip x xs q bx us existential h))
+    (λ universal. next_fits x xs r bx us universal
+    (next_gives q us (Fit xs bx) (λ vs. IsBetween r.low r.high (get_or (spread (x ∷ xs) vs) 0 (pos 0)) → FitNext r vs (Fit xs bx)) (fit_next x xs q bx us universal h)
+    (λ u later inside others fits. (rw (spread-here x xs u later (is_for_all x universal)) at fits, others)) has))
+fit_set (x ∷ xs) (q ∷ bx) us (suc i) r h has =
+    by_player x (Fit (x ∷ xs) (q ∷ set bx i r) us)
+    (λ existential. skip_fits x xs q (set bx i r) us existential
+    (fit_set xs bx us i r (fit_skip x xs q bx us existential h) (rw (spread-other x xs us (not_universal x existential)) at has)))
+    (λ universal. next_fits x xs q (set bx i r) us universal
+    (next_gives q us (Fit xs bx) (λ vs. IsBetween r.low r.high (get_or (spread (x ∷ xs) vs) (suc i) (pos 0)) → FitNext q vs (Fit xs (set bx i r))) (fit_next x xs q bx us universal h)
+    (λ u later inside others fits. (inside, fit_set xs bx later i r others (rw (spread-here x xs u later (is_for_all x universal)) at fits))) has))
 
 -- values that fit a box still fit where they fix their variables' ranges
 pub fit_fixed : (xs : List Var) (bx : List Range) (us : List ℤ) → Fit xs bx us → Fit xs (fixed xs bx us) us

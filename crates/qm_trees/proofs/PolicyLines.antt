@@ -5,22 +5,24 @@ use Rattle.qm_math.specs.Fraction.{Fraction}
 use Rattle.qm_model.specs.declared.range.Range.{Range}
 use Rattle.qm_model.specs.declared.variable.Var.{Var}
 use Rattle.qm_model.specs.declared.game.Problem.{Problem}
-use Rattle.qm_model.specs.Plays.{is_universal}
+use Rattle.qm_model.specs.Plays.{is_universal, whole_vars}
 use Rattle.qm_model.specs.Points.{continuous_vars}
 use Rattle.qm_model.proofs.Players.{exists_of, universal_of, not_universal, is_for_all}
 use Rattle.qm_trees.specs.declared.rule.Rule.TheVariants as rule
 use Rattle.qm_trees.specs.declared.policy.Policy.{Policy, out-Policy}
 use Rattle.qm_trees.specs.declared.policy.Below.TheOpen as node
 use Rattle.qm_trees.specs.declared.policy.PolicyPart.{PolicyPart}
-use Rattle.qm_trees.specs.Verdicts.{Verdict, line, ◌then◌}
+use Rattle.qm_trees.specs.Verdicts.{Verdict, Fine, line, ◌then◌}
 use Rattle.qm_trees.specs.Ranges.{range_at, single, is_in, judge_parts}
 use Rattle.qm_trees.specs.Leaves.{leaf_passes}
-use Rattle.qm_trees.specs.PolicyJudgement.{Layer, range_of, below_of, judge_end, judge_move, judge_policy}
-use Rattle.qm_trees.specs.PolicyRight.{IsRightEnd, IsRightMove, IsRightPolicy, IsEndInRange, IsMoveInRange, IsPolicyInRange}
+use Rattle.qm_trees.specs.EmptyJudgement.{judge_empty}
+use Rattle.qm_trees.specs.PolicyJudgement.{Layer, BelowLayer, range_of, below_of, judge_below, judge_end, judge_move, judge_policy}
+use Rattle.qm_trees.specs.PolicyRight.{IsRightBelow, IsRightEnd, IsRightMove, IsRightPolicy, IsBelowInRange, IsEndInRange, IsMoveInRange, IsPolicyInRange}
 use Rattle.qm_trees.specs.Passing.{IsFine}
 use Rattle.qm_trees.proofs.Lines.{fine_parts, fine_both, fine_line, line_fine, ok_is}
 use Rattle.qm_trees.proofs.Moves.{fine_else, fine_then, else_fine, then_fine, between_of, in_of_between, same_count}
 use Rattle.qm_trees.proofs.CoverLines.{fine_cover, cover_fine}
+use Rattle.qm_trees.proofs.EmptyLines.{right_of_fine as empty_right_of_fine, fine_of_right as empty_fine_of_right}
 use Rattle.qm_trees.proofs.LeafLines.{leaf_of_passes, leaf_passes_of, AreInBounds-length}
 
 -- ---- leaves
@@ -43,10 +45,22 @@ module _ (P : Problem) (v : Fraction) (bx : List Range) (scale : pos 1 ≤ℤ P.
 
 -- ---- moves
 
-module _ (x : Var) (depth : ℕ) (judge : List Range → Policy → Verdict) (IsRight IsInRange : List Range → Policy → Type 0) where
+module _ (P : Problem) (x : Var) (depth : ℕ) (judge : List Range → Policy → Verdict) (IsRight IsInRange : List Range → Policy → Type 0) where
+  right_below : ((bx : List Range) (policy : Policy) → IsFine (judge bx policy) → IsRight bx policy × IsInRange bx policy)
+      → (bx : List Range) (layer : BelowLayer) → IsFine (judge_below P judge bx layer) → IsRightBelow P IsRight bx layer × IsBelowInRange P IsInRange bx layer
+  right_below below bx (node.On policy) fine = below bx policy fine
+  right_below below bx (node.Illegal tree) fine =
+      empty_right_of_fine P (whole_vars P) 0 bx tree (fine_parts (Fine 1) (judge_empty P (whole_vars P) 0 bx tree) fine).1
+
+  below_fine : ((bx : List Range) (policy : Policy) → IsRight bx policy → IsInRange bx policy → IsFine (judge bx policy))
+      → (bx : List Range) (layer : BelowLayer) → IsRightBelow P IsRight bx layer → IsBelowInRange P IsInRange bx layer → IsFine (judge_below P judge bx layer)
+  below_fine below bx (node.On policy) right range = below bx policy right range
+  below_fine below bx (node.Illegal tree) right range =
+      fine_both (Fine 1) (judge_empty P (whole_vars P) 0 bx tree) tt (empty_fine_of_right P (whole_vars P) 0 bx tree right range)
+
   right_move : ((bx : List Range) (policy : Policy) → IsFine (judge bx policy) → IsRight bx policy × IsInRange bx policy)
-      → (bx : List Range) (layer : Layer) → IsFine (judge_move x depth judge bx layer)
-      → IsRightMove x depth IsRight bx layer × IsMoveInRange depth IsInRange bx layer
+      → (bx : List Range) (layer : Layer) → IsFine (judge_move P x depth judge bx layer)
+      → IsRightMove P x depth IsRight bx layer × IsMoveInRange P depth IsInRange bx layer
   right_move below bx (node.Leaf point) fine = absurd fine
   right_move below bx (node.Choose value policy) fine =
       let first = line rule.Choose (Ok (is_in (range_at bx depth) value)) in
@@ -57,20 +71,20 @@ module _ (x : Var) (depth : ℕ) (judge : List Range → Policy → Verdict) (Is
       let later = below (slice_set bx depth (single value)) policy parts.1 in
       ((exists_of x move.0, within, later.0), later.1)
   right_move below bx (node.Answer parts) fine =
-      let each = λ (part : PolicyPart). judge (slice_set bx depth (range_of part)) (below_of part) in
+      let each = λ (part : PolicyPart). judge_below P judge (slice_set bx depth (range_of part)) (below_of part) in
       let move = fine_then (is_universal x) rule.Text 0 (judge_parts range_of each (range_at bx depth) parts) fine in
       let cover = fine_cover range_of each (range_at bx depth) parts move.1 in (
         (
           universal_of x move.0,
           cover.0,
-          λ k d h. (below (slice_set bx depth (range_of (get_or parts k d))) (below_of (get_or parts k d)) (cover.1 k d h)).0,
+          λ k d h. (right_below below (slice_set bx depth (range_of (get_or parts k d))) (below_of (get_or parts k d)) (cover.1 k d h)).0,
         ),
-        λ k d h. (below (slice_set bx depth (range_of (get_or parts k d))) (below_of (get_or parts k d)) (cover.1 k d h)).1,
+        λ k d h. (right_below below (slice_set bx depth (range_of (get_or parts k d))) (below_of (get_or parts k d)) (cover.1 k d h)).1,
       )
 
   move_fine : ((bx : List Range) (policy : Policy) → IsRight bx policy → IsInRange bx policy → IsFine (judge bx policy))
-      → (bx : List Range) (layer : Layer) → IsRightMove x depth IsRight bx layer → IsMoveInRange depth IsInRange bx layer
-      → IsFine (judge_move x depth judge bx layer)
+      → (bx : List Range) (layer : Layer) → IsRightMove P x depth IsRight bx layer → IsMoveInRange P depth IsInRange bx layer
+      → IsFine (judge_move P x depth judge bx layer)
   move_fine below bx (node.Leaf point) right range = absurd right
   move_fine below bx (node.Choose value policy) right range =
       let first = line rule.Choose (Ok (is_in (range_at bx depth) value)) in
@@ -80,10 +94,10 @@ module _ (x : Var) (depth : ℕ) (judge : List Range → Policy → Verdict) (Is
       (line_fine rule.Choose (Ok (is_in (range_at bx depth) value)) (ap (λ b. Ok b) (in_of_between (range_at bx depth) value right.1)))
       (below (slice_set bx depth (single value)) policy right.2 range))
   move_fine below bx (node.Answer parts) right range =
-      let each = λ (part : PolicyPart). judge (slice_set bx depth (range_of part)) (below_of part) in
+      let each = λ (part : PolicyPart). judge_below P judge (slice_set bx depth (range_of part)) (below_of part) in
       then_fine (is_universal x) rule.Text 0 (judge_parts range_of each (range_at bx depth) parts) (is_for_all x right.0)
       (cover_fine range_of each (range_at bx depth) parts right.1
-      (λ k d h. below (slice_set bx depth (range_of (get_or parts k d))) (below_of (get_or parts k d)) (right.2 k d h) (range k d h)))
+      (λ k d h. below_fine below (slice_set bx depth (range_of (get_or parts k d))) (below_of (get_or parts k d)) (right.2 k d h) (range k d h)))
 
 -- ---- policies
 
@@ -92,12 +106,12 @@ module _ (P : Problem) (v : Fraction) (scale : pos 1 ≤ℤ P.scale) (positive :
       → IsRightPolicy P v xs depth bx policy × IsPolicyInRange P v xs depth bx policy
   right_of_fine [] depth bx policy fine = right_end P v bx scale positive (out-Policy policy) fine
   right_of_fine (x ∷ xs) depth bx policy fine =
-      right_move x depth (judge_policy P v xs (depth + 1)) (IsRightPolicy P v xs (depth + 1)) (IsPolicyInRange P v xs (depth + 1))
+      right_move P x depth (judge_policy P v xs (depth + 1)) (IsRightPolicy P v xs (depth + 1)) (IsPolicyInRange P v xs (depth + 1))
       (λ b p is_fine. right_of_fine xs (depth + 1) b p is_fine) bx (out-Policy policy) fine
 
   pub fine_of_right : (xs : List Var) (depth : ℕ) (bx : List Range) (policy : Policy) → IsRightPolicy P v xs depth bx policy
       → IsPolicyInRange P v xs depth bx policy → IsFine (judge_policy P v xs depth bx policy)
   fine_of_right [] depth bx policy right range = end_fine P v bx scale positive (out-Policy policy) right range
   fine_of_right (x ∷ xs) depth bx policy right range =
-      move_fine x depth (judge_policy P v xs (depth + 1)) (IsRightPolicy P v xs (depth + 1)) (IsPolicyInRange P v xs (depth + 1))
+      move_fine P x depth (judge_policy P v xs (depth + 1)) (IsRightPolicy P v xs (depth + 1)) (IsPolicyInRange P v xs (depth + 1))
       (λ b p is_right in_range. fine_of_right xs (depth + 1) b p is_right in_range) bx (out-Policy policy) right range

@@ -29,7 +29,7 @@ use Rattle.qm_trees.specs.RefuteJudgement.{Head, Layer, range_of, below_of}
 use Rattle.qm_trees.specs.RefuteRight.{IsRightClose, IsRightEnd, IsRightMove, IsRightPick, IsRightRefutation}
 use Rattle.qm_trees.proofs.ClosedGoals.{closed_out_of_reach}
 use Rattle.qm_trees.proofs.PickedPlays.{between_itself, fit_behind, fit_fixed, fit_within, next_fits, rows_hold}
-use Rattle.qm_trees.proofs.PolicyReaches.{Finds, cover_finds}
+use Rattle.qm_trees.proofs.FoundParts.{Finds, cover_finds}
 
 -- ---- prefixes in a box
 

@@ -10,8 +10,8 @@ use Rattle.qm_model.specs.declared.game.Problem.{Problem}
 use Rattle.qm_trees.specs.declared.policy.Policy.{Policy, out-Policy}
 use Rattle.qm_trees.specs.declared.policy.Below.TheOpen as node
 use Rattle.qm_trees.specs.Ranges.{single}
-use Rattle.qm_trees.specs.PolicyJudgement.{Layer, range_of, below_of}
-use Rattle.qm_trees.specs.PolicyRight.{IsRightEnd, IsRightMove, IsRightPolicy, IsEndInRange, IsMoveInRange, IsPolicyInRange}
+use Rattle.qm_trees.specs.PolicyJudgement.{Layer, BelowLayer, range_of, below_of}
+use Rattle.qm_trees.specs.PolicyRight.{IsRightBelow, IsRightEnd, IsRightMove, IsRightPolicy, IsBelowInRange, IsEndInRange, IsMoveInRange, IsPolicyInRange}
 use Rattle.qm_trees.specs.Evaluation.{zero, least_end_by}
 use Rattle.qm_trees.specs.Leaves.{add_terms, value_at, least_objective}
 
@@ -25,12 +25,17 @@ module _ (P : Problem) (v w : Fraction) (positive : 0 < v.den) (less : IsAtMost 
   end_at_less bx (node.Choose value below) right = absurd right
   end_at_less bx (node.Answer parts) right = absurd right
 
+  below_at_less : (IsRight IsRightToo : List Range → Policy → Type 0) → ((bx : List Range) (policy : Policy) → IsRight bx policy → IsRightToo bx policy)
+      → (bx : List Range) (layer : BelowLayer) → IsRightBelow P IsRight bx layer → IsRightBelow P IsRightToo bx layer
+  below_at_less IsRight IsRightToo below bx (node.On policy) right = below bx policy right
+  below_at_less IsRight IsRightToo below bx (node.Illegal tree) right = right
+
   move_at_less : (x : Var) (depth : ℕ) (IsRight IsRightToo : List Range → Policy → Type 0) → ((bx : List Range) (policy : Policy) → IsRight bx policy → IsRightToo bx policy)
-      → (bx : List Range) (layer : Layer) → IsRightMove x depth IsRight bx layer → IsRightMove x depth IsRightToo bx layer
+      → (bx : List Range) (layer : Layer) → IsRightMove P x depth IsRight bx layer → IsRightMove P x depth IsRightToo bx layer
   move_at_less x depth IsRight IsRightToo below bx (node.Leaf point) right = absurd right
   move_at_less x depth IsRight IsRightToo below bx (node.Choose value policy) right = (right.0, right.1, below (slice_set bx depth (single value)) policy right.2)
   move_at_less x depth IsRight IsRightToo below bx (node.Answer parts) right =
-      (right.0, right.1, λ k d h. below (slice_set bx depth (range_of (get_or parts k d))) (below_of (get_or parts k d)) (right.2 k d h))
+      (right.0, right.1, λ k d h. below_at_less IsRight IsRightToo below (slice_set bx depth (range_of (get_or parts k d))) (below_of (get_or parts k d)) (right.2 k d h))
 
   pub right_at_less : (xs : List Var) (depth : ℕ) (bx : List Range) (policy : Policy) → IsRightPolicy P v xs depth bx policy → IsRightPolicy P w xs depth bx policy
   right_at_less [] depth bx policy right = end_at_less bx (out-Policy policy) right
@@ -61,12 +66,17 @@ module _ (P : Problem) (v w : Fraction) where
   end_range_at bx (node.Choose value below) range = tt
   end_range_at bx (node.Answer parts) range = tt
 
+  below_range_at : (IsInRange IsInRangeToo : List Range → Policy → Type 0) → ((bx : List Range) (policy : Policy) → IsInRange bx policy → IsInRangeToo bx policy)
+      → (bx : List Range) (layer : BelowLayer) → IsBelowInRange P IsInRange bx layer → IsBelowInRange P IsInRangeToo bx layer
+  below_range_at IsInRange IsInRangeToo below bx (node.On policy) range = below bx policy range
+  below_range_at IsInRange IsInRangeToo below bx (node.Illegal tree) range = range
+
   move_range_at : (depth : ℕ) (IsInRange IsInRangeToo : List Range → Policy → Type 0) → ((bx : List Range) (policy : Policy) → IsInRange bx policy → IsInRangeToo bx policy)
-      → (bx : List Range) (layer : Layer) → IsMoveInRange depth IsInRange bx layer → IsMoveInRange depth IsInRangeToo bx layer
+      → (bx : List Range) (layer : Layer) → IsMoveInRange P depth IsInRange bx layer → IsMoveInRange P depth IsInRangeToo bx layer
   move_range_at depth IsInRange IsInRangeToo below bx (node.Leaf point) range = tt
   move_range_at depth IsInRange IsInRangeToo below bx (node.Choose value policy) range = below (slice_set bx depth (single value)) policy range
   move_range_at depth IsInRange IsInRangeToo below bx (node.Answer parts) range =
-      λ k d h. below (slice_set bx depth (range_of (get_or parts k d))) (below_of (get_or parts k d)) (range k d h)
+      λ k d h. below_range_at IsInRange IsInRangeToo below (slice_set bx depth (range_of (get_or parts k d))) (below_of (get_or parts k d)) (range k d h)
 
   -- whether operations leave doesn't depend on the value
   pub in_range_at : (xs : List Var) (depth : ℕ) (bx : List Range) (policy : Policy) → IsPolicyInRange P v xs depth bx policy → IsPolicyInRange P w xs depth bx policy

@@ -20,7 +20,7 @@ pub use combination_laws::{
     combination_values_are_exact, combinations_are_sound, rows_hold_over_one_denominator,
 };
 pub use empty::{Empty, EmptyPart};
-pub use empty_laws::fine_empty_trees_are_right;
+pub use empty_laws::{fine_empty_trees_are_right, right_empty_trees_leave_no_play};
 pub use policy::{Below, Policy, PolicyPart};
 pub use policy_laws::{
     fine_policies_are_right, right_policies_are_right_at_less, right_policies_win, yes_means_fine,

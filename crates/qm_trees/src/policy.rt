@@ -1,3 +1,4 @@
+use crate::Empty;
 use qm_frac::Frac;
 use qm_io::List;
 use qm_model::Range;
@@ -27,5 +28,8 @@ pub struct PolicyPart {
 #[cycle(policy)]
 #[derive(Debug, Drop)]
 pub enum Below {
+    /// A policy that goes on from them.
     On(Policy),
+    /// No universal play has them: why none has its values in the box.
+    Illegal(Empty),
 }

@@ -129,6 +129,20 @@ pub(super) fn half(alloc: Global) -> Result<Game, Memory> {
     Ok(game_of(vars, 1, List::new(alloc), urows, terms(alloc, &[])?))
 }
 
+/// A variable without a value that this player sets, beside the universal player's u, which is in no row.
+pub(super) fn stuck(alloc: Global, player: Player) -> Result<Game, Memory> {
+    let mut vars = List::new(alloc);
+    vars.push(whole_var(alloc, player, -1))?;
+    vars.push(whole_var(alloc, Player::All, 1))?;
+    Ok(game_of(
+        vars,
+        2,
+        List::new(alloc),
+        List::new(alloc),
+        terms(alloc, &[])?,
+    ))
+}
+
 /// z, x and the other player's u in this order, where x is to be u.
 pub(super) fn guess(alloc: Global) -> Result<Game, Memory> {
     let vars = three_vars(

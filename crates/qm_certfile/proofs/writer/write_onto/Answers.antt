@@ -1,5 +1,5 @@
 use Rattle.qm_certfile.proofs.LineTexts.{on_ok}
-use Rattle.qm_certfile.proofs.CertificateTexts.{infeasible_wrote, optimal_wrote}
+use Rattle.qm_certfile.proofs.CertificateTexts.{empty_wrote, infeasible_wrote, optimal_wrote}
 use Rattle.qm_certfile.proofs.writer.write_onto.Goals as goal
 
 pub returns-in_ok-write_policy-in-Optimal : goal.returns-in_ok-write_policy-in-Optimal
@@ -20,3 +20,9 @@ returns-in_ok-write_begin-in-Infeasible c =
     c.in_ok-write_alone-in-Infeasible.ensures
     (rw c.as_slice-in-Infeasible.ensures at c.in_ok-write_begin-in-Infeasible.ensures))
     c.write_refutation-in-Infeasible.ensures
+
+pub returns-in-Empty : goal.returns-in-Empty
+returns-in-Empty c =
+    on_ok c.write_no_play.result
+    (empty_wrote c.args.game.now c.args.certificate.now c.in-Empty.tree c.args.out.now c.write_no_play.new.out c.in-Empty.is)
+    c.write_no_play.ensures

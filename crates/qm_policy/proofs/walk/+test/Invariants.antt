@@ -1,7 +1,8 @@
-use Rattle.std.proofs.Common.{◌≡◌, ◌+◌, ◌*◌, length, drop, slice_set}
+use Rattle.std.proofs.Common.{◌≡◌, ◌+◌, ◌*◌, ◌≤ℤ◌, length, drop}
 use Rattle.qm_trees.specs.Verdicts.{answer_of}
 use Rattle.qm_trees.specs.Ranges.{judge_each}
-use Rattle.qm_trees.specs.PolicyJudgement.{below_of, judge_policy, range_of}
+use Rattle.qm_trees.specs.PolicyJudgement.{range_of}
+use Rattle.qm_policy.specs.Parts.{judge_part}
 use Rattle.qm_policy.proofs.walk.+test.Given as goal
 
 abbrev pub decreases-test_from : goal.decreases-test_from
@@ -25,6 +26,7 @@ decreases-test_answer l = 6 * length l.later.now + 5
 abbrev pub invariant-test_each-loop-at : goal.invariant-test_each-loop-at
 invariant-test_each-loop-at l = record {
   same : l.bx ≡ l.fn.bx;
-  rest : answer_of (judge_each range_of (λ part. judge_policy l.game l.value l.later (l.depth + 1) (slice_set l.fn.bx l.depth (range_of part)) (below_of part)) l.next l.covered.high (drop l.at l.parts))
-      ≡ answer_of (judge_each range_of (λ part. judge_policy l.game l.value l.later (l.depth + 1) (slice_set l.fn.bx l.depth (range_of part)) (below_of part)) l.covered.low l.covered.high l.parts);
+  reached : l.covered.low ≤ℤ l.next;
+  rest : answer_of (judge_each range_of (judge_part l.game l.value l.later l.depth l.fn.bx) l.next l.covered.high (drop l.at l.parts))
+      ≡ answer_of (judge_each range_of (judge_part l.game l.value l.later l.depth l.fn.bx) l.covered.low l.covered.high l.parts);
 }

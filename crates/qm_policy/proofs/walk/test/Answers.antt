@@ -5,13 +5,16 @@ use Rattle.qm_trees.specs.PolicyJudgement.{judge_policy}
 use Rattle.qm_trees.specs.PolicyRight.{IsRightPolicy}
 use Rattle.qm_trees.proofs.Lines.{fine_of_answer}
 use Rattle.qm_trees.proofs.PolicyLines.{right_of_fine}
-use Rattle.qm_trees.proofs.PolicyReaches.{right_wins}
+use Rattle.qm_trees.proofs.PolicyReaches.{right_reaches, right_wins}
 use Rattle.qm_policy.proofs.walk.test.Goals as goal
 
 pub test_from-requires : goal.test_from-requires
 test_from-requires c =
     rw (c.as_slice.ensures, c.problem-problem.ensures.value)
-    (record { ranges = IsBox-length c.args.game.now.vars c.args.bx.now c.requires; rest_is = refl })
+    (record {
+      place = record { ranges = IsBox-length c.args.game.now.vars c.args.bx.now c.requires; rest_is = refl };
+      box = c.requires;
+    })
 
 pub returns-clause-right : goal.returns-clause-right
 returns-clause-right c =
@@ -21,13 +24,16 @@ returns-clause-right c =
     λ yes. (right_of_fine c.args.game.now c.args.value.now scale c.den-positive.ensures.terms.positive (whole_vars c.args.game.now) 0 c.args.bx.now c.args.policy.now
     (fine_of_answer judged (sym walked.answer ∙ yes))).0
 
+pub returns-clause-reaches : goal.returns-clause-reaches
+returns-clause-reaches c =
+    let sound = rw c.problem-problem.ensures.value at c.problem-problem.ensures.sound in
+    λ yes whole us play.
+    right_reaches c.args.game.now sound c.args.value.now c.args.policy.now us
+    (subst (λ bx. IsRightPolicy c.args.game.now c.args.value.now (whole_vars c.args.game.now) 0 bx c.args.policy.now) whole (returns-clause-right c yes)) play
+
 pub returns-clause-wins : goal.returns-clause-wins
 returns-clause-wins c =
-    let walked = rw (c.as_slice.ensures, c.problem-problem.ensures.value) at c.test_from.ensures in
     let sound = rw c.problem-problem.ensures.value at c.problem-problem.ensures.sound in
-    let judged = judge_policy c.args.game.now c.args.value.now (whole_vars c.args.game.now) 0 c.args.bx.now c.args.policy.now in
     λ yes whole.
-    let right = (right_of_fine c.args.game.now c.args.value.now sound.scale_positive c.den-positive.ensures.terms.positive (whole_vars c.args.game.now) 0 c.args.bx.now c.args.policy.now
-    (fine_of_answer judged (sym walked.answer ∙ yes))).0 in
     right_wins c.args.game.now sound c.args.value.now c.args.policy.now
-    (subst (λ bx. IsRightPolicy c.args.game.now c.args.value.now (whole_vars c.args.game.now) 0 bx c.args.policy.now) whole right)
+    (subst (λ bx. IsRightPolicy c.args.game.now c.args.value.now (whole_vars c.args.game.now) 0 bx c.args.policy.now) whole (returns-clause-right c yes))

@@ -10,25 +10,38 @@ use Rattle.qm_trees.specs.Verdicts.{answer_of}
 use Rattle.qm_trees.specs.Ranges.{judge_each, range_at}
 use Rattle.qm_trees.specs.RefuteJudgement.{below_of, judge_refute, range_of}
 use Rattle.qm_cover.proofs.Places.{put_back}
-use Rattle.qm_cover.proofs.PartSteps.{step_is, part_leaves, part_fails, part_passes}
-use Rattle.qm_refute.specs.Places.{IsBoxPlace}
-use Rattle.qm_refute.proofs.Places.{next_of, narrowed, picked_inside, following}
-use Rattle.qm_refute.proofs.Steps.{over_move, passed_follows}
+use Rattle.qm_cover.proofs.PartSteps.{step_is, part_leaves, part_fails, part_passes, passed_follows}
+use Rattle.qm_cover.specs.Places.{IsBoxPlace}
+use Rattle.qm_cover.proofs.BoxPlaces.{next_of, narrowed, picked_inside, following}
+use Rattle.qm_refute.proofs.Steps.{over_move}
 use Rattle.qm_refute.proofs.walk.+test.Goals as goal
 
 pub test_from-test_over-requires : goal.test_from-test_over-requires
 test_from-test_over-requires t c =
     let here = next_of c.args.game.now c.args.rest.now c.in-Some.var.now c.in-Some.later.now c.args.depth c.args.bx.now c.in-Some.ensures.cases.0 c.requires.place in
     let more = c.in-Some.ensures.cases.0 in
-    (omega (arith, ap length more), (c.requires.plain, (c.requires.cuts, (here.next, here.below))))
+    (omega (arith, ap length more), (c.requires.cuts, (here.next, here.below)))
 
 pub test_from-test_below-requires : goal.test_from-test_below-requires
 test_from-test_below-requires t c =
     let here = next_of c.args.game.now c.args.rest.now c.in-Some.var.now c.in-Some.later.now c.args.depth c.args.bx.now c.in-Some.ensures.cases.0 c.requires.place in
     let more = c.in-Some.ensures.cases.0 in
     let inside : IsInside c.single.result (range_at c.args.bx.now c.args.depth) =
-    picked_inside _ _ c.args.bx.now c.as_slice-in-Pick.result.now c.args.depth _ c.single.result c.as_slice-in-Pick.ensures c.single.ensures (sym c.can_pick.ensures ∙ c.if-not-can_pick.false) in
-    (omega (arith, ap length more), (c.requires.plain, (c.requires.cuts, (here.next, (here.below, inside)))))
+    picked_inside _ _ _ c.args.bx.now c.args.depth _ c.single.result c.single.ensures (sym c.can_pick.ensures.answer ∙ c.if-not-can_pick.false) in
+    let same = sym c.can_pick.ensures.same in (
+      omega (arith, ap length more),
+      (
+        c.requires.cuts,
+        (
+          subst (λ b. IsBoxPlace c.args.game.now c.in-Some.later.now (c.args.depth + 1) b) same here.next,
+          (omega (arith, ap length same, here.below), subst (λ b. IsInside c.single.result (range_at b c.args.depth)) same inside),
+        ),
+      ),
+    )
+
+pub test_from-can_pick-requires-clause-place : goal.test_from-can_pick-requires-clause-place
+test_from-can_pick-requires-clause-place t c =
+    (next_of c.args.game.now c.args.rest.now c.in-Some.var.now c.in-Some.later.now c.args.depth c.args.bx.now c.in-Some.ensures.cases.0 c.requires.place).next
 
 pub test_from-returns-in-Over-clause-answer : goal.test_from-returns-in-Over-clause-answer
 test_from-returns-in-Over-clause-answer t c =
@@ -40,11 +53,8 @@ pub test_below-test_from-answer-requires : goal.test_below-test_from-answer-requ
 test_below-test_from-answer-requires t c = (
   omega arith,
   (
-    c.requires.plain,
-    (
-      c.requires.cuts,
-      rw c.set.ensures (narrowed c.args.game.now c.args.later.now c.args.depth c.args.bx.now c.args.range c.requires.inside c.requires.place),
-    ),
+    c.requires.cuts,
+    rw c.set.ensures (narrowed c.args.game.now c.args.later.now c.args.depth c.args.bx.now c.args.range c.requires.inside c.requires.place),
   ),
 )
 
@@ -63,13 +73,10 @@ test_each-test_part-requires t c =
     (following _ c.args.covered c.is_last.result (range_of part) c.loop-at.invariant.reached (sym c.follows-follows.ensures ∙ yes)).inside) in (
       omega arith,
       (
-        c.requires.plain,
+        c.requires.cuts,
         (
-          c.requires.cuts,
-          (
-            subst (λ b. IsBoxPlace c.args.game.now c.args.later.now (c.args.depth + 1) b) same c.requires.place,
-            (omega (arith, ap length same, c.requires.depth), inside),
-          ),
+          subst (λ b. IsBoxPlace c.args.game.now c.args.later.now (c.args.depth + 1) b) same c.requires.place,
+          (omega (arith, ap length same, c.requires.depth), inside),
         ),
       ),
     )

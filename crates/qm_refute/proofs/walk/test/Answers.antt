@@ -7,7 +7,7 @@ use Rattle.qm_trees.specs.RefuteJudgement.{judge_refute}
 use Rattle.qm_trees.proofs.Lines.{fine_of_answer}
 use Rattle.qm_trees.proofs.RefutationLines.{right_of_fine}
 use Rattle.qm_trees.proofs.RefutationsRefuse.{right_refuses}
-use Rattle.qm_refute.proofs.Places.{rest_of}
+use Rattle.qm_cover.proofs.BoxPlaces.{rest_of}
 use Rattle.qm_refute.proofs.walk.test.Goals as goal
 
 pub test_from-requires-clause-place : goal.test_from-requires-clause-place

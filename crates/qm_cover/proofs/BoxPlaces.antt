@@ -1,4 +1,4 @@
--- How the test goes from place to place.
+-- How the test goes from place to place, in boxes of the game.
 use Rattle.std.proofs.Common.{◌≡◌, ℕ, ◌+◌, ◌<◌, ◌≤ℤ◌, Bool, true, List, ◌∷◌, length, set, take, drop, arith, ap, sym, subst, ◌-◌, ◌∙◌, ℤ, pos, ◌+ℤ◌, unsigned_abs}
 use Rattle.std.specs.Prelude.{◌≤◌, ◌&&◌, int_le, max}
 use Rattle.std.specs.Ordering.{int_eq}
@@ -16,7 +16,7 @@ use Rattle.qm_trees.specs.Ranges.{range_at, single, is_in, follows_on, same}
 use Rattle.qm_trees.proofs.Lines.{le_of_test}
 use Rattle.qm_trees.proofs.Moves.{between_of}
 use Rattle.qm_cover.proofs.Places.{next_place, same_place}
-use Rattle.qm_refute.specs.Places.{IsBoxPlace}
+use Rattle.qm_cover.specs.Places.{IsBoxPlace}
 
 -- where a variable is next
 pub record Next (P : Problem) (later : List Var) (depth : ℕ) (bx : List Range) : Type 0 where
@@ -54,12 +54,13 @@ value_inside r v e =
     record { low = between.0; high = between.1; low_near = is_near; high_near = is_near }
 
 -- a value that is picked
-pub picked_inside : (before after : Bool) (bx slice : List Range) (depth : ℕ) (v : ℤ) (r : Range) → slice ≡ bx → r ≡ single v → (before && (is_in (range_at slice depth) v && after)) ≡ true
+pub picked_inside : (before fits meets : Bool) (bx : List Range) (depth : ℕ) (v : ℤ) (r : Range) → r ≡ single v → (before && (is_in (range_at bx depth) v && fits && meets)) ≡ true
     → IsInside r (range_at bx depth)
-picked_inside before after bx slice depth v r same is e =
-    let parts = and_parts before (is_in (range_at slice depth) v && after) e in
-    let within = (and_parts (is_in (range_at slice depth) v) after parts.1).0 in
-    rw is (subst (λ b. IsInside (single v) (range_at b depth)) same (value_inside (range_at slice depth) v within))
+picked_inside before fits meets bx depth v r is e =
+    let parts = and_parts before (is_in (range_at bx depth) v && fits && meets) e in
+    let both = and_parts (is_in (range_at bx depth) v && fits) meets parts.1 in
+    let within = (and_parts (is_in (range_at bx depth) v) fits both.0).0 in
+    rw is (value_inside (range_at bx depth) v within)
 
 -- a part that follows on
 pub record Following (covered r : Range) : Type 0 where

@@ -1,0 +1,98 @@
+-- What the tests of empty trees go by.
+use Rattle.std.proofs.Common.{◌≡◌, ℕ, zero, suc, ◌+◌, ◌<◌, Bool, true, false, List, [], ◌∷◌, length, drop, get_or, refl, sym, ap, ◌∙◌, subst, arith, Ok, Err}
+use Rattle.std.specs.Prelude.{◌==◌, if◌then◌else◌, slice_set}
+use Rattle.std.proofs.lemmas.Bool.Decides.{Decides-eqb}
+use Rattle.qm_frac.specs.declared.leaves.Leaves.{Leaves}
+use Rattle.qm_model.specs.declared.range.Range.{Range}
+use Rattle.qm_model.specs.declared.variable.Var.{Var}
+use Rattle.qm_model.specs.declared.game.Problem.{Problem}
+use Rattle.qm_model.specs.Plays.{is_universal, whole_vars}
+use Rattle.qm_trees.specs.declared.combination.ComboValue.{ComboValue}
+use Rattle.qm_trees.specs.declared.rule.Rule.TheVariants as rule
+use Rattle.qm_trees.specs.declared.empty.Empty.{Empty, Split, Close, out-Empty}
+use Rattle.qm_trees.specs.declared.empty.Empty.TheVariants.{rolls-Split, rolls-Close}
+use Rattle.qm_trees.specs.declared.empty.Empty.TheViews.{out-roll-Empty}
+use Rattle.qm_trees.specs.declared.empty.Empty.TheOpen as node
+use Rattle.qm_trees.specs.declared.empty.EmptyPart.{EmptyPart}
+use Rattle.qm_trees.specs.Entries.{AreEntries, Combination, weighted_rows}
+use Rattle.qm_trees.specs.Evaluation.{value_of}
+use Rattle.qm_trees.specs.Verdicts.{Verdict, Broken, answer_of}
+use Rattle.qm_trees.specs.Ranges.{range_at, judge_parts}
+use Rattle.qm_trees.specs.EmptyJudgement.{Layer, range_of, below_of, all_uncertain, closes_empty, contradicts, is_void, judge_close, judge_empty, judge_end, some_universal_empty}
+use Rattle.qm_trees.proofs.Multipliers.{entries_all_positive}
+use Rattle.qm_cover.proofs.PartSteps.{answer_of-line}
+use Rattle.qm_combo.specs.Splits.{judge_here}
+
+-- ---- closing
+
+module _ (P : Problem) (bx : List Range) (combo : Combination) (entries : AreEntries combo.entries) (plain : combo.objective ≡ false) (named : all_uncertain P combo.entries ≡ true) where
+  judged : contradicts P bx combo ≡ answer_of (judge_close P bx combo)
+  judged =
+      let tests : closes_empty P bx combo ≡ contradicts P bx combo = rw (entries_all_positive combo.entries entries, named) refl in
+      rw plain (sym tests ∙ sym (answer_of-line rule.Close (closes_empty P bx combo)))
+
+  pub closed_by_range : some_universal_empty (whole_vars P) bx ≡ true → Ok true ≡ answer_of (judge_close P bx combo)
+  closed_by_range e = (let here : Ok true ≡ contradicts P bx combo = rw e refl in here) ∙ judged
+
+  module _ (full : some_universal_empty (whole_vars P) bx ≡ false) where
+    pub closed_by_value : (v : ComboValue) → value_of P false (weighted_rows P [] combo.entries) bx ≡ Ok v → Ok (is_void v) ≡ answer_of (judge_close P bx combo)
+    closed_by_value v e = (let here : Ok (is_void v) ≡ contradicts P bx combo = rw (full, e) refl in here) ∙ judged
+
+    pub value_leaves : (leaves : Leaves) → value_of P false (weighted_rows P [] combo.entries) bx ≡ Err leaves → Err leaves ≡ answer_of (judge_close P bx combo)
+    value_leaves leaves e = (let here : Err leaves ≡ contradicts P bx combo = rw (full, e) refl in here) ∙ judged
+
+-- ---- nodes
+
+splits : (var : ℕ) (parts : List EmptyPart) → out-Empty (Split var parts) ≡ node.Split var parts
+splits var parts = ap out-Empty (sym (rolls-Split var parts)) ∙ out-roll-Empty (node.Split var parts)
+
+closes : (combo : Combination) → out-Empty (Close combo) ≡ node.Close combo
+closes combo = ap out-Empty (sym (rolls-Close combo)) ∙ out-roll-Empty (node.Close combo)
+
+close_judged : (P : Problem) (rest : List Var) (depth : ℕ) (bx : List Range) (tree : Empty) (combo : Combination) → out-Empty tree ≡ node.Close combo
+    → judge_empty P rest depth bx tree ≡ judge_close P bx combo
+close_judged P [] depth bx tree combo e = rw e refl
+close_judged P (x ∷ rest) depth bx tree combo e = rw e refl
+
+pub at_close : (P : Problem) (rest : List Var) (depth : ℕ) (bx : List Range) (tree : Empty) (combo : Combination) → tree ≡ Close combo
+    → answer_of (judge_close P bx combo) ≡ answer_of (judge_empty P rest depth bx tree)
+at_close P rest depth bx tree combo is = sym (ap answer_of (close_judged P rest depth bx tree combo (ap out-Empty is ∙ closes combo)))
+
+not_same : (m n : ℕ) → (m ≡ n → ⊥) → (m == n) ≡ false
+not_same m n h = by (m == n) (λ e. h ((Decides-eqb m n).0 e))
+  where
+    by : (b : Bool) → (b ≡ true → ⊥) → b ≡ false
+    by true h = absurd (h refl)
+    by false h = refl
+
+module _ (P : Problem) (bx : List Range) (tree : Empty) (var : ℕ) (parts : List EmptyPart) (layer : out-Empty tree ≡ node.Split var parts) where
+  -- a split of none of the variables
+  nowhere : (rest : List Var) (depth : ℕ) → ((k : ℕ) → k < length rest → var ≡ depth + k → ⊥) → judge_empty P rest depth bx tree ≡ Broken rule.Text 0
+  nowhere [] depth other = rw layer refl
+  nowhere (x ∷ rest) depth other =
+      let here : var ≡ depth → ⊥ = λ e. other 0 (omega arith) (omega (arith, e)) in
+      let later = nowhere rest (depth + 1) (λ k below e. other (suc k) (omega (arith, below)) (omega (arith, e))) in
+      rw (layer, not_same var depth here) later
+
+  -- a split of one of them
+  somewhere : (rest : List Var) (k depth : ℕ) (x : Var) → k < length rest → x ≡ get_or rest k x → var ≡ depth + k → judge_empty P rest depth bx tree ≡ judge_here P x (drop (suc k) rest) var bx parts
+  somewhere [] k depth x below is at = absurd (omega (arith, below))
+  somewhere (y ∷ rest) zero depth x below is at =
+      let same : var ≡ depth = omega (arith, at) in
+      let found : (var == depth) ≡ true = (Decides-eqb var depth).1 same in
+      rw (layer, found, is, same) refl
+  somewhere (y ∷ rest) (suc k) depth x below is at =
+      let here : var ≡ depth → ⊥ = λ e. omega (arith, at, e) in
+      let later = somewhere rest k (depth + 1) x (omega (arith, below)) is (omega (arith, at)) in
+      rw (layer, not_same var depth here) later
+
+pub at_none : (P : Problem) (rest : List Var) (depth : ℕ) (bx : List Range) (tree : Empty) (var : ℕ) (parts : List EmptyPart) → tree ≡ Split var parts
+    → ((k : ℕ) → k < length rest → var ≡ depth + k → ⊥) → Ok false ≡ answer_of (judge_empty P rest depth bx tree)
+at_none P rest depth bx tree var parts is other = sym (ap answer_of (nowhere P bx tree var parts (ap out-Empty is ∙ splits var parts) rest depth other))
+
+pub at_split : (P : Problem) (rest : List Var) (k depth : ℕ) (bx : List Range) (tree : Empty) (var : ℕ) (parts : List EmptyPart) (x : Var) → tree ≡ Split var parts
+    → k < length rest → x ≡ get_or rest k x → var ≡ depth + k → answer_of (judge_here P x (drop (k + 1) rest) var bx parts) ≡ answer_of (judge_empty P rest depth bx tree)
+at_split P rest k depth bx tree var parts x is below at where_is =
+    let next : k + 1 ≡ suc k = omega arith in
+    ap (λ n. answer_of (judge_here P x (drop n rest) var bx parts)) next
+    ∙ sym (ap answer_of (somewhere P bx tree var parts (ap out-Empty is ∙ splits var parts) rest k depth x below at where_is))
