@@ -1,0 +1,9 @@
+pub mod Narrowing
+pub mod LeastValues
+pub mod TermSizes
+pub mod Keeping
+pub mod Found
+pub mod Rest
+pub mod Progress
+pub mod Meaning
+pub mod Tightness
