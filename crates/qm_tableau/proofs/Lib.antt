@@ -1,0 +1,12 @@
+pub mod Cuts
+pub mod Zeros
+pub mod Steps
+pub mod Candidates
+pub mod Coefficients
+pub mod Highs
+pub mod Pushed
+pub mod Rooms
+pub mod Exactness
+pub mod Lowering
+pub mod Keeping
+pub mod Falling

@@ -1,0 +1,121 @@
+ghost use Rattle.std.specs.Prelude.{◌≡◌, ◌<◌, ◌≤◌, ◌^◌, ◌++◌, [], IfOk, OnOk, if◌then◌else◌, int_lt, length, pos, unsigned_abs, ◌+◌, ◌*◌, ℕ};
+ghost use Rattle.qm_model.specs.Boxes.{IsBox};
+ghost use Rattle.qm_model.specs.Linear.{IsOrdered, coefficient};
+ghost use Rattle.qm_model.specs.Sound.{IsSound};
+ghost use Rattle.qm_tableau.specs.Quantities.{quantities};
+ghost use Rattle.qm_tableau.specs.FirstTable.{columns_from, corner, first_table, raises, table_at};
+
+use crate::first_rows::first_entries;
+use crate::sparse::next_coefficient;
+use crate::tableau::Tableau;
+use qm_game::Bx;
+use qm_io::{List, Memory};
+use qm_model::{Game, Problem, Range, Term};
+use std::alloc::Global;
+
+fn is_positive(n: i128) -> bool
+    ensures { result ≡ int_lt (pos 0) n }
+{
+    n > 0
+}
+
+/// Whether each variable raises the objective.
+fn raises(alloc: Global, objective: &[Term], bx: &[Range]) -> Result<List<bool>, Memory>
+    requires ordered { IsOrdered objective.now }
+    requires narrow { (var : ℕ) → unsigned_abs (coefficient objective.now var) < 2 ^ 127 }
+    requires few { length bx.now < 2 ^ 29 }
+    ensures { IfOk result (λ highs. highs ≡ raises objective.now 0 bx.now) }
+{
+    let mut highs = List::new(alloc);
+    let mut rest = objective;
+    for (var, _) in bx.iter().enumerate() {
+        let (coefficient, later) = next_coefficient(rest, var as u32);
+        highs.push(is_positive(coefficient))?;
+        rest = later;
+    }
+    Ok(highs)
+}
+
+fn end_of(range: Range, high: bool) -> i64
+    ensures { result ≡ (if high then range.high else range.low) }
+{
+    if high { range.high } else { range.low }
+}
+
+/// The corner of the box with these ends.
+fn corner(alloc: Global, highs: &[bool], bx: &[Range]) -> Result<List<i64>, Memory>
+    requires { length highs.now ≡ length bx.now }
+    ensures { IfOk result (λ values. values ≡ corner highs.now bx.now) }
+{
+    let mut values = List::new(alloc);
+    for (var, high) in highs.iter().enumerate() {
+        values.push(end_of(bx[var], *high))?;
+    }
+    Ok(values)
+}
+
+fn column_of(var: u32, high: bool) -> u32
+    requires { var < 2 ^ 29 }
+    ensures { result ≡ (if high then 2 * var + 1 else 2 * var + 2) }
+{
+    if high { 2 * var + 1 } else { 2 * var + 2 }
+}
+
+/// The rows that the columns belong to.
+fn columns(alloc: Global, highs: &[bool]) -> Result<List<u32>, Memory>
+    requires { length highs.now < 2 ^ 29 }
+    ensures { IfOk result (λ columns. columns ≡ columns_from 0 highs.now) }
+{
+    let mut columns = List::new(alloc);
+    for (var, high) in highs.iter().enumerate() {
+        columns.push(column_of(var as u32, *high))?;
+    }
+    Ok(columns)
+}
+
+/// How many rows the first tableau has.
+#[tactic(auto, using(crate::proofs::Rooms::count_quantities))]
+fn height_of(problem: &Problem, bx: &[Range]) -> usize
+    requires vars { length bx.now < 2 ^ 29 }
+    requires rows { length problem.now.rows < 2 ^ 29 }
+    requires urows { length problem.now.urows < 2 ^ 29 }
+    ensures count { result ≡ length (quantities problem.now bx.now) }
+    ensures few { result < 2 ^ 32 }
+{
+    1 + 2 * bx.len() + problem.rows.len() + problem.urows.len()
+}
+
+/// The tableau whose columns are of these ends.
+#[tactic(auto, using(crate::proofs::Rooms::few_ranges, crate::proofs::Rooms::few_values, crate::proofs::Rooms::room_of_objective, crate::proofs::Rooms::room_of_rows, crate::proofs::Rooms::room_of_urows, crate::proofs::Rooms::count_entries, crate::proofs::Rooms::table_is))]
+fn table_at(
+    alloc: Global,
+    problem: &Problem,
+    bx: &[Range],
+    highs: &[bool],
+) -> Result<Tableau, Memory>
+    requires sound { IsSound problem.now }
+    requires ranges { IsBox problem.now.vars bx.now }
+    requires highs { length highs.now ≡ length bx.now }
+    ensures { IfOk result (λ t. t ≡ table_at problem.now bx.now highs.now) }
+{
+    let values = corner(alloc, highs, bx)?;
+    let columns = columns(alloc, highs)?;
+    let entries = first_entries(alloc, problem, bx, highs, values.as_slice())?;
+    let mut spare = List::new(alloc);
+    spare.append(entries.as_slice())?;
+    Ok(Tableau::new(columns, entries, spare, height_of(problem, bx)))
+}
+
+/// The tableau with a column for each variable: that of its distance from its high end where it raises the
+/// objective, else from its low end. `Memory`, where there is none for it and for the room that pivots
+/// need; no operation leaves.
+#[tactic(auto, using(crate::proofs::Rooms::few_ranges, crate::proofs::Rooms::objective_narrow, crate::proofs::Rooms::length_raises))]
+pub fn first(alloc: Global, game: &Game, bx: &Bx) -> Result<Tableau, Memory>
+    requires { IsBox game.now.vars bx.now }
+    ensures { IfOk result (λ t. t ≡ first_table game.now bx.now) }
+{
+    let problem = game.problem();
+    let ranges = bx.as_slice();
+    let highs = raises(alloc, problem.terms.as_slice(), ranges)?;
+    table_at(alloc, problem, ranges, highs.as_slice())
+}

@@ -1,0 +1,54 @@
+ghost use Rattle.std.specs.Prelude.{◌≡◌, ◌<◌, ◌≤◌, ◌-◌, ℕ, suc, Ok, List, All, length, pos, slice_set, unsigned_abs};
+ghost use Rattle.std.specs.List.{AllZip};
+ghost use Rattle.qm_math.specs.Fraction.{Fraction, HasPositiveDen, IsBelow, IsSame, whole};
+ghost use Rattle.qm_math.specs.Lexicographic.{IsLexBelow, IsLexNegative};
+ghost use Rattle.qm_tableau.specs.Tables.{Table, entry_at, row_at};
+ghost use Rattle.qm_tableau.specs.Pivoting.{pivoted};
+ghost use Rattle.qm_tableau.specs.Columns.{affine_value, column_at};
+ghost use Rattle.qm_model.specs.declared.range.Range.{Range};
+ghost use Rattle.qm_model.specs.declared.game.Problem.{Problem};
+ghost use Rattle.qm_tableau.specs.FirstTable.{first_table};
+ghost use Rattle.qm_tableau.specs.Exact.{AreSameTables, exact_table};
+
+/// A pivot that doesn't leave has the numbers of the pivot in unbounded fractions.
+#[tactic(auto, using(crate::proofs::Exactness::pivot_exact))]
+pub fn pivots_are_exact()
+    ensures { (t u : Table) (r c : ℕ) → r < length t.rows →
+        0 < unsigned_abs (entry_at t.rows r c).num →
+        All (λ row. length row ≡ suc (length t.columns)) t.rows →
+        All (λ row. All HasPositiveDen row) t.rows → pivoted t r c ≡ Ok u →
+        AreSameTables u (exact_table t r c) }
+{}
+
+/// A pivot keeps every row the same function: at any values of the columns' quantities, with what the
+/// leaving row comes to in the place of the entering column's, each row comes to what it came to before.
+#[tactic(auto, using(crate::proofs::Keeping::pivot_keeps))]
+pub fn pivots_keep_every_row()
+    ensures { (t u : Table) (r c : ℕ) (values : List Fraction) → r < length t.rows → 0 < c →
+        c ≤ length t.columns → 0 < unsigned_abs (entry_at t.rows r c).num →
+        All (λ row. length row ≡ suc (length t.columns)) t.rows →
+        All (λ row. All HasPositiveDen row) t.rows → length values ≡ length t.columns →
+        All HasPositiveDen values → pivoted t r c ≡ Ok u →
+        AllZip (λ now before. IsSame
+        (affine_value now (slice_set values (c - 1) (affine_value (row_at t.rows r) values)))
+        (affine_value before values)) u.rows t.rows }
+{}
+
+/// A pivot where the row's constant is negative and its entry in the column positive, and the column is
+/// lexicographically negative, makes the column of constants lexicographically smaller.
+#[tactic(auto, using(crate::proofs::Lowering::pivot_lowers))]
+pub fn pivots_lower_the_constants()
+    ensures { (t u : Table) (r c : ℕ) → r < length t.rows → 0 < c →
+        All (λ row. length row ≡ suc (length t.columns)) t.rows →
+        All (λ row. All HasPositiveDen row) t.rows →
+        IsBelow (entry_at t.rows r 0) (whole (pos 0)) →
+        IsBelow (whole (pos 0)) (entry_at t.rows r c) → IsLexNegative (column_at t.rows c) →
+        pivoted t r c ≡ Ok u → IsLexBelow (column_at u.rows 0) (column_at t.rows 0) }
+{}
+
+/// Each column of the first tableau from column 1 on is lexicographically negative.
+#[tactic(auto, using(crate::proofs::Falling::first_falls))]
+pub fn the_first_columns_are_negative()
+    ensures { (P : Problem) (bx : List Range) (j : ℕ) → j < length bx →
+        IsLexNegative (column_at (first_table P bx).rows (suc j)) }
+{}

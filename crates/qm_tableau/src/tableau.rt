@@ -1,0 +1,109 @@
+ghost use Rattle.std.specs.Prelude.{◌≡◌, ◌<◌, ◌≤◌, ◌*◌, ◌^◌, ◌-◌, suc, OnErr, length, slice_index_or, unsigned_abs};
+ghost use Rattle.qm_tableau.specs.Tables.{entry_at, rows_of};
+ghost use Rattle.qm_tableau.specs.Leaving.{giving};
+ghost use Rattle.qm_tableau.specs.Pivoting.{pivoted};
+ghost use Rattle.qm_tableau.specs.Rule.{chosen};
+
+use crate::choosing::choose_among;
+use crate::grid::Grid;
+use crate::pivoting::write_rows;
+use crate::{Choice, LeavesAt};
+use qm_frac::Frac;
+use qm_io::List;
+use std::marker::Model;
+use std::mem;
+
+/// Rows of fractions: row 0 belongs to the objective and column 0 to the constants; each column from 1
+/// on belongs to the quantity of a row. Contracts see the rows and, for each column from 1 on, that row.
+#[derive(Debug, Drop)]
+pub struct Tableau {
+    columns: List<u32>,
+    numbers: Grid,
+    spare: Grid,
+}
+
+impl Model for Tableau {
+    ghost use Rattle.std.specs.Prelude.{◌≡◌, ◌<◌, ◌^◌, suc, length};
+    ghost use Rattle.qm_tableau.specs.Tables.{Table};
+
+    ghost Value = { Table };
+
+    ghost view = { λ t. record { columns = t.columns; rows = t.numbers.rows } };
+
+    ghost invariant = { λ t. (t.numbers.width ≡ suc (length t.columns)) × (t.spare.width ≡ t.numbers.width)
+        × (length t.spare.rows ≡ length t.numbers.rows) × (length t.numbers.rows < 2 ^ 32) × (t.numbers.width < 2 ^ 32) };
+}
+
+impl Tableau {
+    /// The tableau of entries in rows, one after the other. `spare` is room for as many.
+    #[tactic(auto, using(crate::proofs::Cuts::length_rows_of))]
+    pub fn new(columns: List<u32>, entries: List<Frac>, spare: List<Frac>, height: usize) -> Tableau
+        requires columns { length columns < 2 ^ 32 - 1 }
+        requires height { height < 2 ^ 32 }
+        requires entries { length entries ≡ height * suc (length columns) }
+        requires spare { length spare ≡ length entries }
+        ensures { result ≡ record { columns = columns; rows = rows_of (suc (length columns)) height entries } }
+    {
+        let width = columns.len() + 1;
+        Tableau {
+            columns,
+            numbers: Grid::new(entries, width, height),
+            spare: Grid::new(spare, width, height),
+        }
+    }
+
+    /// How many rows there are.
+    pub fn height(&self) -> usize
+        ensures { result ≡ length self.now.rows }
+    {
+        self.numbers.height()
+    }
+
+    /// How many columns there are, the constants' among them.
+    pub fn width(&self) -> usize
+        ensures { result ≡ suc (length self.now.columns) }
+    {
+        self.numbers.width()
+    }
+
+    /// The row whose quantity this column belongs to.
+    pub fn row_of_column(&self, col: u32) -> u32
+        requires first { 1 ≤ col }
+        requires col { col ≤ length self.now.columns }
+        ensures { result ≡ slice_index_or self.now.columns (col - 1) 0 }
+    {
+        self.columns.as_slice()[col as usize - 1]
+    }
+
+    /// The entry in this row and column.
+    pub fn entry(&self, row: u32, col: u32) -> Frac
+        requires row { row < length self.now.rows }
+        requires col { col ≤ length self.now.columns }
+        ensures { result ≡ entry_at self.now.rows row col }
+    {
+        self.numbers.row(row as usize)[col as usize]
+    }
+
+    /// The next pivot by the rule. `LeavesAt` names the first operation that leaves.
+    pub fn choose(&self) -> Result<Choice, LeavesAt>
+        ensures { result ≡ chosen self.now }
+    {
+        choose_among(&self.numbers)
+    }
+
+    /// Exchanges the quantity of a column with that of a row. `LeavesAt` names the first operation that
+    /// leaves, and the tableau is then unchanged.
+    pub fn pivot(&mut self, row: u32, col: u32) -> Result<(), LeavesAt>
+        requires row { row < length self.old.rows }
+        requires first { 1 ≤ col }
+        requires col { col ≤ length self.old.columns }
+        requires entry { 0 < unsigned_abs (entry_at self.old.rows row col).num }
+        ensures new { giving result self.new ≡ pivoted self.old row col }
+        ensures unchanged { OnErr result (self.new ≡ self.old) }
+    {
+        write_rows(&self.numbers, &mut self.spare, row, col)?;
+        mem::swap(&mut self.numbers, &mut self.spare);
+        self.columns.set(col as usize - 1, row);
+        Ok(())
+    }
+}

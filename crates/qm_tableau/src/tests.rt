@@ -1,0 +1,4 @@
+mod choices;
+mod games;
+mod pieces;
+mod pivots;
