@@ -1,0 +1,16 @@
+use Rattle.std.proofs.Common.{arith, sym}
+use Rattle.qm_parse.specs.Marks.{is_marked}
+use Rattle.qm_parse.proofs.FirstSuch.{found_here, found_later, found_nowhere}
+use Rattle.qm_parse.proofs.marks.Marks.first_in.Goals as goal
+
+pub returns-then-has : goal.returns-then-has
+returns-then-has c =
+    found_here (λ named. is_marked c.args.self.now named.name) c.args.list.now c.loop-named.named-index _ _ (omega arith) (sym c.if-has.ensures) c.loop-named.invariant
+
+pub loop-named-preserved : goal.loop-named-preserved
+loop-named-preserved c =
+    found_later (λ named. is_marked c.args.self.now named.name) c.args.list.now c.loop-named.named-index _ _ (omega arith) (sym c.if-has.ensures) c.loop-named.invariant
+
+pub returns : goal.returns
+returns c =
+    found_nowhere (λ named. is_marked c.args.self.now named.name) c.args.list.now c.loop-named.named-index _ (omega arith) c.loop-named.invariant

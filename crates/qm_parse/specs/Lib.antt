@@ -1,0 +1,14 @@
+pub mod NameTables
+pub mod Stages
+pub mod Drafts
+pub mod Reading
+pub mod Parts
+pub mod Texts
+pub mod Faults
+pub mod Checks
+pub mod Symbols
+pub mod Parsing
+pub mod Marks
+pub mod Surveys
+pub mod NameFaults
+pub mod Known
