@@ -1,14 +1,22 @@
 //! Does one operation of fractions many times, and prints a number made of all the answers.
 //! Its words are the operation, the kind of the operands and how many thousand times; or `tokens` and how many
-//! thousand bytes of text are to be cut into tokens. It is timed from outside.
+//! thousand bytes of text are to be cut into tokens; or `parse` and how many thousand terms a text has that is to be
+//! read; or `propagate` and how many times a game is to be propagated; or `pivots`, the shape of a made tableau and how
+//! many pairs of pivots are to be done on it, the second of each taking the first back. It is timed from outside.
 #![tactic(auto)]
 
+mod games;
 mod operands;
+mod parses;
+mod tableaus;
 mod texts;
 mod work;
 
+use games::reasons_in;
 use operands::Operands;
+use parses::rows_in;
 use std::{env, io};
+use tableaus::{Shape, pivots};
 use texts::tokens_in;
 use work::{Work, answers};
 
@@ -16,6 +24,18 @@ fn main(rt: HostRuntime) -> io::Result<()> {
     let alloc = rt.alloc();
     let words: Vec<String> = env::args(&rt)?.skip(1).collect(alloc)?;
     match words.as_slice() {
+        [work, shape, pairs] if work.as_str() == "pivots" => {
+            match (
+                Shape::read(shape.as_str()),
+                pairs.as_str().parse::<u32>().ok(),
+            ) {
+                (Some(shape), Some(pairs)) => match pivots(alloc, shape, pairs) {
+                    Ok(done) => println!(rt; "{done}"),
+                    Err(_) => println!(rt; "memory"),
+                },
+                _ => println!(rt; "?"),
+            }
+        }
         [work, operands, thousands] => {
             let work = Work::read(work.as_str());
             let operands = Operands::read(operands.as_str());
@@ -28,10 +48,18 @@ fn main(rt: HostRuntime) -> io::Result<()> {
                 _ => println!(rt; "?"),
             }
         }
-        [work, thousands] => match (work.as_str(), thousands.as_str().parse::<u32>()) {
+        [work, times] => match (work.as_str(), times.as_str().parse::<u32>()) {
             ("tokens", Ok(thousands)) => {
                 let count = tokens_in(alloc, thousands)?;
                 println!(rt; "{count}")
+            }
+            ("propagate", Ok(times)) => match reasons_in(alloc, times) {
+                Ok(count) => println!(rt; "{count}"),
+                Err(_) => println!(rt; "out of memory"),
+            },
+            ("parse", Ok(thousands)) => {
+                let rows = rows_in(alloc, thousands)?;
+                println!(rt; "{rows}")
             }
             _ => println!(rt; "?"),
         },

@@ -2,7 +2,7 @@ use qm_lex::tokens;
 use std::alloc::{AllocError, Global};
 
 /// The most bytes of a text that has tokens.
-const MOST: usize = 0x7FFF_FFFF;
+pub const MOST: usize = 0x7FFF_FFFF;
 
 /// A row of fifty bytes.
 const ROW: &[u8] = b"row_17: 12.5 plant_7 + 3e2 x[4] - y <= 40 \\ a row\n";

@@ -1,3 +1,5 @@
+use crate::faults::fault_of;
+use crate::numbers::{Reading, number_of};
 use crate::question::{Question, over, read_question};
 use crate::tokens::tokens_of;
 use qm_frac::{Frac, Leaves, Op};
@@ -27,6 +29,18 @@ impl fmt::Display for Shown {
 pub fn answer(alloc: Global, line: &str) -> Result<String, AllocError> {
     if let Some(hex) = line.strip_prefix("tokens ") {
         return tokens_of(alloc, hex);
+    }
+    if let Some(hex) = line.strip_prefix("fault ") {
+        return fault_of(alloc, hex);
+    }
+    if let Some(hex) = line.strip_prefix("decimal ") {
+        return number_of(alloc, Reading::Decimal, hex);
+    }
+    if let Some(hex) = line.strip_prefix("fraction ") {
+        return number_of(alloc, Reading::Fraction, hex);
+    }
+    if let Some(hex) = line.strip_prefix("whole ") {
+        return number_of(alloc, Reading::Whole, hex);
     }
     match read_question(line) {
         Some(question) => answer_to(alloc, question),
@@ -72,7 +86,8 @@ fn divided(alloc: Global, a: Frac, b: Frac) -> Result<String, AllocError> {
     value_or_leaves(alloc, a.div(b))
 }
 
-fn fraction_text(alloc: Global, value: Frac) -> Result<String, AllocError> {
+/// A fraction as it is printed.
+pub fn fraction_text(alloc: Global, value: Frac) -> Result<String, AllocError> {
     let value = Shown { value };
     format!(in alloc; "{value}")
 }

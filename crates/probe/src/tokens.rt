@@ -1,10 +1,9 @@
-ghost use Rattle.std.specs.Prelude.{◌<◌, IfSome};
-
+use crate::hex::bytes_of;
 use qm_lex::{LexFault, Token, tokens};
 use std::alloc::{AllocError, Global};
 
 /// The most bytes of a text that has tokens.
-const MOST: usize = 0x7FFF_FFFF;
+pub const MOST: usize = 0x7FFF_FFFF;
 
 /// The tokens of the text whose bytes are written in hexadecimal: the kind, the start and the end of each; or the
 /// place of the first byte that begins none.
@@ -40,29 +39,4 @@ fn listed(alloc: Global, tokens: &[Token]) -> Result<String, AllocError> {
         out.push_str(word.as_str())?;
     }
     Ok(out)
-}
-
-// The bytes that are written by two digits each; None where something else is written.
-fn bytes_of(alloc: Global, hex: &[u8]) -> Result<Option<Vec<u8>>, AllocError> {
-    let mut bytes = Vec::new(alloc);
-    for pair in hex.chunks(2) {
-        match pair {
-            [high, low] => match (digit(*high), digit(*low)) {
-                (Some(high), Some(low)) => bytes.push(16 * high + low)?,
-                _ => return Ok(None),
-            },
-            _ => return Ok(None),
-        }
-    }
-    Ok(Some(bytes))
-}
-
-fn digit(byte: u8) -> Option<u8>
-    ensures { IfSome result (λ d. d < 16) }
-{
-    match byte {
-        b'0'..=b'9' => Some(byte - b'0'),
-        b'a'..=b'f' => Some(byte - b'a' + 10),
-        _ => None,
-    }
 }

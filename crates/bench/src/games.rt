@@ -1,0 +1,135 @@
+ghost use Rattle.std.specs.Prelude.{◌≡◌, ◌≢◌, ◌+◌, ◌*◌, ◌<◌, ◌≤◌, All, IfOk, length, pos, unsigned_abs};
+ghost use Rattle.bench.specs.Games.{IsPlain, IsPlainRow};
+
+use qm_game::{Bx, Game, Player, Problem, Row, Sense, Term, Terms, Var, whole_box};
+use qm_io::{List, Memory};
+use qm_prop::{Propagated, propagate};
+use smallvec::SmallVec;
+use std::alloc::Global;
+
+fn variable(alloc: Global) -> Var
+    ensures { IsPlain result }
+{
+    Var {
+        name: List::new(alloc),
+        player: Player::Exists,
+        whole: true,
+        low: 0,
+        high: 1000,
+    }
+}
+
+fn variables(alloc: Global) -> Result<List<Var>, Memory>
+    ensures many { IfOk result (λ vars. length vars ≡ 1000) }
+    ensures plain { IfOk result (All IsPlain) }
+{
+    let mut vars = List::new(alloc);
+    for _ in 0..1000u32 {
+        vars.push(variable(alloc))?;
+    }
+    Ok(vars)
+}
+
+// A coefficient from -8 to 8 other than 0, more often a positive one.
+fn coefficient(bits: u64) -> i128
+    ensures some { result ≢ pos 0 }
+    ensures small { unsigned_abs result ≤ 8 }
+{
+    let size = i128::from(bits % 8) + 1;
+    if bits / 8 % 8 == 0 { -size } else { size }
+}
+
+// The term of a row's variable of this number, where the row begins at `first` and goes on by `step`.
+fn term(first: u32, step: u32, number: u32, seed: u64) -> Term
+    requires first { first < 250 }
+    requires step { step ≤ 100 }
+    requires number { number < 8 }
+    ensures var { result.var ≡ first + number * step }
+    ensures some { result.coef ≢ pos 0 }
+    ensures small { unsigned_abs result.coef ≤ 8 }
+{
+    Term {
+        var: first + number * step,
+        coef: coefficient(seed.rotate_right(6 * number)),
+    }
+}
+
+// Eight terms.
+fn terms(alloc: Global, first: u32, step: u32, seed: u64) -> Result<Terms, Memory>
+    requires first { first < 250 }
+    requires some { 0 < step }
+    requires step { step ≤ 100 }
+    ensures { IfOk result (λ terms. IsPlainRow (record { terms = terms; right = pos 0 })) }
+{
+    let mut terms = SmallVec::new(alloc);
+    terms.push(term(first, step, 0, seed))?;
+    terms.push(term(first, step, 1, seed))?;
+    terms.push(term(first, step, 2, seed))?;
+    terms.push(term(first, step, 3, seed))?;
+    terms.push(term(first, step, 4, seed))?;
+    terms.push(term(first, step, 5, seed))?;
+    terms.push(term(first, step, 6, seed))?;
+    terms.push(term(first, step, 7, seed))?;
+    Ok(Terms::new(terms))
+}
+
+// A row of eight terms.
+fn row(alloc: Global, seed: u64) -> Result<Row, Memory>
+    ensures { IfOk result IsPlainRow }
+{
+    let first = (seed % 250) as u32;
+    let step = (seed / 1024 % 100) as u32 + 1;
+    Ok(Row {
+        terms: terms(alloc, first, step, seed)?,
+        right: i128::from(seed / 65536 % 4000),
+    })
+}
+
+fn rows(alloc: Global) -> Result<List<Row>, Memory>
+    ensures many { IfOk result (λ rows. length rows ≡ 2000) }
+    ensures plain { IfOk result (All IsPlainRow) }
+{
+    let mut rows = List::new(alloc);
+    let mut seed: u64 = 1;
+    for _ in 0..2000u32 {
+        seed = seed
+            .wrapping_mul(6364136223846793005)
+            .wrapping_add(1442695040888963407);
+        rows.push(row(alloc, seed.rotate_left(31))?)?;
+    }
+    Ok(rows)
+}
+
+// A game of 1,000 whole variables and 2,000 rows.
+fn game(alloc: Global) -> Result<Game, Memory> {
+    Ok(Game::new(Problem {
+        sense: Sense::Max,
+        vars: variables(alloc)?,
+        wholes: 1000,
+        rows: rows(alloc)?,
+        urows: List::new(alloc),
+        terms: Terms::new(SmallVec::new(alloc)),
+        constant: 0,
+        scale: 1,
+    }))
+}
+
+fn count(end: &Propagated) -> usize {
+    match end {
+        Propagated::Narrowed { reasons, .. } => reasons.len(),
+        Propagated::Dead { reasons, .. } => reasons.len(),
+    }
+}
+
+/// How many reasons propagation gives on a game of 1,000 variables and 2,000 rows, which is propagated so many times;
+/// 0 where it is not propagated.
+pub fn reasons_in(alloc: Global, times: u32) -> Result<usize, Memory> {
+    let game = game(alloc)?;
+    let mut reasons = 0;
+    for _ in 0..times {
+        let bx: Bx = whole_box(alloc, &game)?;
+        let end = propagate(alloc, &game, bx)?;
+        reasons = count(&end);
+    }
+    Ok(reasons)
+}

@@ -1,0 +1,77 @@
+use crate::hex::bytes_of;
+use crate::tokens::MOST;
+use qm_lex::{LexFault, Place, tokens};
+use qm_parse::{ParseFault, What, parse};
+use std::alloc::{AllocError, Global};
+
+/// `ok`, or the line of the first fault of the text whose bytes are written in hexadecimal.
+pub fn fault_of(alloc: Global, hex: &str) -> Result<String, AllocError> {
+    match bytes_of(alloc, hex.as_bytes())? {
+        Some(text) => told(alloc, &text),
+        None => String::from_str(alloc, "?"),
+    }
+}
+
+fn told(alloc: Global, text: &[u8]) -> Result<String, AllocError> {
+    if text.len() > MOST {
+        return String::from_str(alloc, "?");
+    }
+    match tokens(alloc, text) {
+        Ok(tokens) => match parse(alloc, text, tokens.as_slice()) {
+            Ok(_) => String::from_str(alloc, "ok"),
+            Err(fault) => fault_line(alloc, &fault),
+        },
+        Err(LexFault::BadByte(at)) => placed(alloc, at, "byte"),
+        Err(LexFault::Memory) => String::from_str(alloc, "memory"),
+    }
+}
+
+fn fault_line(alloc: Global, fault: &ParseFault) -> Result<String, AllocError> {
+    match fault {
+        ParseFault::Expected(at, what) => expected(alloc, *at, *what),
+        ParseFault::Number(at) => placed(alloc, *at, "number"),
+        ParseFault::BothPlayers(name, at) => named(alloc, *at, "both", name.as_slice()),
+        ParseFault::Twice(name, at) => named(alloc, *at, "twice", name.as_slice()),
+        ParseFault::Unknown(name, at) => named(alloc, *at, "unknown", name.as_slice()),
+        ParseFault::Unordered(name, at) => named(alloc, *at, "unordered", name.as_slice()),
+        ParseFault::Infinite(name, at) => named(alloc, *at, "infinite", name.as_slice()),
+        ParseFault::NoUpper(name, at) => named(alloc, *at, "upper", name.as_slice()),
+        ParseFault::Memory => String::from_str(alloc, "memory"),
+    }
+}
+
+fn placed(alloc: Global, at: Place, fault: &str) -> Result<String, AllocError> {
+    let line = at.line;
+    let column = at.column;
+    format!(in alloc; "text {line} {column} {fault}")
+}
+
+fn expected(alloc: Global, at: Place, what: What) -> Result<String, AllocError> {
+    let line = at.line;
+    let column = at.column;
+    let word = expected_word(what);
+    format!(in alloc; "text {line} {column} expected {word}")
+}
+
+fn named(alloc: Global, at: Place, kind: &str, name: &[u8]) -> Result<String, AllocError> {
+    let line = at.line;
+    let column = at.column;
+    let name = String::from_utf8_lossy(alloc, name)?;
+    format!(in alloc; "text {line} {column} {kind} {name}")
+}
+
+fn expected_word(what: What) -> &'static str {
+    match what {
+        What::Sense => "sense",
+        What::SubjectTo => "SUBJECT TO",
+        What::To => "TO",
+        What::Term => "term",
+        What::Name => "name",
+        What::Relation => "relation",
+        What::Number => "number",
+        What::LineEnd => "line end",
+        What::Section => "section",
+        What::Order => "ORDER",
+        What::TextEnd => "text end",
+    }
+}
