@@ -49,3 +49,5 @@ pub mod EarliestOf
 pub mod FirstFound
 pub mod KindLaws
 pub mod NameLaws
+pub mod OneSymbols
+pub mod OneAnswer

@@ -10,7 +10,7 @@ use Rattle.qm_parse.specs.NameFaults.{IsFirstSecond}
 use Rattle.qm_parse.specs.declared.ast.Named.{Named}
 use Rattle.qm_parse.proofs.Repeats.{repeated-here, repeated-later, repeated-nil}
 
-AllPairs-nil : {X : Type 0} (R : X → X → Type 0) → AllPairs R []
+pub AllPairs-nil : {X : Type 0} (R : X → X → Type 0) → AllPairs R []
 AllPairs-nil R = λ i j d before inside. absurd (omega arith)
 
 pub AllPairs-head : {X : Type 0} (R : X → X → Type 0) (x : X) (xs : List X) → AllPairs R (x ∷ xs) → All (R x) xs

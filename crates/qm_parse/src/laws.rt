@@ -1,4 +1,4 @@
-ghost use Rattle.std.specs.Prelude.{◌≡◌, ℕ, false, List, ◌++◌, All, Ok, Err, ◌↔◌, Some, None, ◌<◌, length};
+ghost use Rattle.std.specs.Prelude.{◌≡◌, ◌≢◌, ℕ, false, List, ◌++◌, All, Result, Ok, Err, ◌↔◌, Some, None, ◌<◌, length};
 ghost use Rattle.qm_lex.specs.declared.place.Place.{Place};
 ghost use Rattle.qm_parse.specs.declared.ast.Ast.{Ast};
 ghost use Rattle.qm_parse.specs.declared.stage.State.{State};
@@ -12,7 +12,20 @@ ghost use Rattle.qm_parse.specs.Symbols.{AreSymbols};
 ghost use Rattle.qm_parse.specs.Checks.{NamesRight, name_fault};
 ghost use Rattle.qm_parse.specs.NameFaults.{IsFirstOffence};
 ghost use Rattle.qm_parse.specs.declared.offence.NameFault.{NameFault};
+ghost use Rattle.qm_parse.specs.Parsing.{IsParsed};
+ghost use Rattle.qm_parse.specs.declared.fault.ParseFault.{ParseFault};
+ghost use Rattle.qm_parse.specs.declared.fault.ParseFault.TheVariants.{Memory};
 ghost use Rattle.qm_parse.specs.Known.{AreKnown, HasNumbersBelow};
+
+use qm_text::one_decimal_a_word;
+
+/// A text and its tokens have one answer, unless memory runs out.
+pub fn one_answer()
+    ensures { (text : List ℕ) (tokens : List Token) (one other : Result Ast ParseFault) → IsParsed text tokens one → IsParsed text tokens other →
+        one ≢ Err Memory → other ≢ Err Memory → one ≡ other }
+{
+    one_decimal_a_word();
+}
 
 /// What is a text is read, and gives its tree.
 pub fn a_text_is_read()
