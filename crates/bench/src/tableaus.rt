@@ -115,7 +115,10 @@ pub fn pivots(alloc: Global, shape: Shape, pairs: u32) -> Result<u32, Memory> {
     if let Some(mut tableau) = made(alloc, shape)? {
         let slacks = shape.rows.saturating_sub(shape.columns.saturating_mul(2));
         for turn in 0..pairs {
-            let row = shape.rows.saturating_sub(1).saturating_sub(turn % slacks.max(1));
+            let row = shape
+                .rows
+                .saturating_sub(1)
+                .saturating_sub(turn % slacks.max(1));
             let col = (turn % shape.columns.max(1)).wrapping_add(1);
             let back = row_of_column(&tableau, col);
             if pivot(&mut tableau, row, col) && pivot(&mut tableau, back, col) {
