@@ -37,47 +37,66 @@ fn split(alloc: Global, var: u32, at_0: Empty, at_1: Empty) -> Result<Empty, Fai
     Ok(Empty::Split { var, parts })
 }
 
+// The tree that splits the first variable into 0 and 1, each closed by one uncertainty row.
+fn closed_apart(
+    alloc: Global,
+    game: &Game,
+    var: u32,
+    at_0: &[Entry],
+    at_1: &[Entry],
+) -> Result<Empty, Fail> {
+    let below_0 = close(alloc, game, at_0)?;
+    let below_1 = close(alloc, game, at_1)?;
+    split(alloc, var, below_0, below_1)
+}
+
+// Whether the tree passes over the box with these ranges.
+fn passes(
+    alloc: Global,
+    game: &Game,
+    ranges: &[(u32, i64, i64)],
+    tree: &Empty,
+) -> Result<bool, Fail> {
+    let mut bx = box_with(alloc, game, ranges)?;
+    Ok(test_empty(game, &mut bx, tree)?)
+}
+
 // 2 u is to be 1: at 0 the second row contradicts it, at 1 the first.
 #[test]
 fn no_play_where_2_u_is_1(rt: HostRuntime) -> Result<(), Fail> {
-    let alloc = rt.alloc();
-    let game = half(alloc)?;
-    let mut bx = box_with(alloc, &game, &[])?;
-    let first = close(alloc, &game, &[uncertain(0)])?;
-    let second = close(alloc, &game, &[uncertain(1)])?;
-    let tree = split(alloc, 0, second, first)?;
-    assert_eq!(rt; test_empty(&game, &mut bx, &tree)?, true);
-    let first = close(alloc, &game, &[uncertain(0)])?;
-    let second = close(alloc, &game, &[uncertain(1)])?;
-    let swapped = split(alloc, 0, first, second)?;
-    assert_eq!(rt; test_empty(&game, &mut bx, &swapped)?, false);
+    let game = half(rt.alloc())?;
+    let tree = closed_apart(rt.alloc(), &game, 0, &[uncertain(1)], &[uncertain(0)])?;
+    assert_eq!(rt; passes(rt.alloc(), &game, &[], &tree)?, true);
+    Ok(())
+}
+
+#[test]
+fn the_other_row_does_not_close(rt: HostRuntime) -> Result<(), Fail> {
+    let game = half(rt.alloc())?;
+    let tree = closed_apart(rt.alloc(), &game, 0, &[uncertain(0)], &[uncertain(1)])?;
+    assert_eq!(rt; passes(rt.alloc(), &game, &[], &tree)?, false);
     Ok(())
 }
 
 // With a = 1 no b and c are equal and bring the sum to 2, but with a = 0 b = c = 1 do.
 #[test]
 fn no_play_has_a_at_1(rt: HostRuntime) -> Result<(), Fail> {
-    let alloc = rt.alloc();
-    let game = pair(alloc)?;
-    let at_0 = close(alloc, &game, &[uncertain(1), uncertain(3)])?;
-    let at_1 = close(alloc, &game, &[uncertain(0), uncertain(2)])?;
-    let tree = split(alloc, 1, at_0, at_1)?;
-    let mut bx = box_with(alloc, &game, &[(0, 1, 1)])?;
-    assert_eq!(rt; test_empty(&game, &mut bx, &tree)?, true);
-    let mut whole = box_with(alloc, &game, &[])?;
-    assert_eq!(rt; test_empty(&game, &mut whole, &tree)?, false);
+    let game = pair(rt.alloc())?;
+    let at_0 = [uncertain(1), uncertain(3)];
+    let at_1 = [uncertain(0), uncertain(2)];
+    let tree = closed_apart(rt.alloc(), &game, 1, &at_0, &at_1)?;
+    assert_eq!(rt; passes(rt.alloc(), &game, &[(0, 1, 1)], &tree)?, true);
+    assert_eq!(rt; passes(rt.alloc(), &game, &[], &tree)?, false);
     Ok(())
 }
 
 // A variable without a value, beside one of the other player's: no play is left where the universal player has none.
 #[test]
 fn an_empty_range_of_the_universal_player_alone_closes(rt: HostRuntime) -> Result<(), Fail> {
-    let alloc = rt.alloc();
     for (player, closed) in [(Player::All, true), (Player::Exists, false)] {
-        let game = stuck(alloc, player)?;
-        let mut bx = box_with(alloc, &game, &[])?;
-        let tree = close(alloc, &game, &[])?;
-        assert_eq!(rt; test_empty(&game, &mut bx, &tree)?, closed);
+        let game = stuck(rt.alloc(), player)?;
+        let tree = close(rt.alloc(), &game, &[])?;
+        assert_eq!(rt; passes(rt.alloc(), &game, &[], &tree)?, closed);
     }
     Ok(())
 }
