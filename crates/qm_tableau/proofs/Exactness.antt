@@ -59,7 +59,7 @@ other_entry i c f k t o x other h =
     let e : (k == c) ≡ false = grind (arith, nat_tests) in
     placed-ok i k (less_multiple t f o) x (rw e at h)
 
-own_entry : (i c : ℕ) (f : Fraction) (k : ℕ) (t o x : Fraction) → k ≡ c → new_entry i c f k t o ≡ Ok x → f ≡ x
+pub own_entry : (i c : ℕ) (f : Fraction) (k : ℕ) (t o x : Fraction) → k ≡ c → new_entry i c f k t o ≡ Ok x → f ≡ x
 own_entry i c f k t o x own h =
     let e : (k == c) ≡ true = grind (arith, nat_tests) in
     same_value f x (rw e at h)

@@ -1,21 +1,19 @@
 -- The columns of the first tableau are lexicographically negative.
-use Rattle.std.proofs.Common.{◌≡◌, ◌∙◌, refl, sym, ap, ap₂, subst, ℕ, zero, suc, ◌+◌, ◌*◌, ◌<◌, ◌≤◌, ◌⊎◌, inl, inr, Bool, true, false, List, [], ◌∷◌, ◌++◌, length, get_or, map, arith, ℤ, pos, negsuc, neg_ℤ, ◌+ℤ◌, ◌<ℤ◌, ◌≢◌}
+use Rattle.std.proofs.Common.{◌≡◌, ◌∙◌, refl, sym, ap, ap₂, subst, ℕ, zero, suc, ◌+◌, ◌<◌, ◌≤◌, inl, inr, Bool, true, false, List, [], ◌∷◌, ◌++◌, length, get_or, map, arith, ℤ, pos, negsuc, neg_ℤ, ◌+ℤ◌, ◌<ℤ◌, ◌≢◌}
 use Rattle.std.specs.Prelude.{if◌then◌else◌, ◌==◌, int_lt}
 use Rattle.std.proofs.lemmas.Int.{ints}
 use Rattle.std.proofs.lemmas.Bool.Decides.{nat_tests}
 use Rattle.qm_math.specs.Fraction.{Fraction, IsBelow, IsSame, whole}
 use Rattle.qm_math.specs.Lexicographic.{IsLexNegative}
-use Rattle.qm_math.proofs.FractionLaws.{same_refl}
 use Rattle.qm_model.specs.declared.range.Range.{Range}
 use Rattle.qm_model.specs.declared.row.Term.{Term}
 use Rattle.qm_model.specs.declared.game.Problem.{Problem}
 use Rattle.qm_model.specs.Linear.{coefficient}
-use Rattle.qm_tableau.specs.Tables.{entry_of}
-use Rattle.qm_tableau.specs.Quantities.{Quantity, bound_quantities, coefficient_in, high_quantity, low_quantity, quantities, slack_quantity, turned}
+use Rattle.qm_tableau.specs.Quantities.{Quantity, bound_quantities, coefficient_in, quantities, slack_quantity, turned}
 use Rattle.qm_tableau.specs.FirstTable.{corner, first_row, first_table, numbers_from, raises}
 use Rattle.qm_tableau.specs.Columns.{column_at}
 
-numbers_at : (f : ℕ → ℤ) (var : ℕ) (highs : List Bool) (j : ℕ) (d : Fraction) → j < length highs
+pub numbers_at : (f : ℕ → ℤ) (var : ℕ) (highs : List Bool) (j : ℕ) (d : Fraction) → j < length highs
     → get_or (numbers_from f var highs) j d ≡ whole (turned (get_or highs j false) (f (var + j)))
 numbers_at f var [] j d h = absurd (omega arith)
 numbers_at f var (high ∷ highs) zero d h = let at : var ≡ var + 0 = omega arith in ap (λ (n : ℕ). whole (turned high (f n))) at

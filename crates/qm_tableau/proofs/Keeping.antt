@@ -1,9 +1,9 @@
 -- A pivot keeps every row the same function of the quantities that the columns belong to.
-use Rattle.std.proofs.Common.{◌≡◌, ◌∙◌, refl, sym, ap, ℕ, zero, suc, ◌+◌, ◌-◌, ◌<◌, ◌≤◌, List, [], ◌∷◌, length, get_or, set, map, arith, All, Ok, pos, unsigned_abs, subst}
+use Rattle.std.proofs.Common.{◌≡◌, ◌∙◌, refl, sym, ap, ℕ, zero, suc, ◌-◌, ◌<◌, ◌≤◌, List, [], ◌∷◌, length, set, arith, All, Ok, pos, unsigned_abs, subst}
 use Rattle.std.specs.List.{AllZip}
 use Rattle.std.proofs.lemmas.List.Elements.{All-head, All-set, All-tail}
 use Rattle.qm_math.specs.Fraction.{Fraction, HasPositiveDen, IsSame, whole}
-use Rattle.qm_math.specs.Arithmetic.{difference_of, product_of, quotient_of, sum_of}
+use Rattle.qm_math.specs.Arithmetic.{product_of, quotient_of}
 use Rattle.qm_math.specs.Pivots.{pivoted_constant, pivoted_row, row_value}
 use Rattle.qm_math.specs.Totals.{reduced_row, sum_of_products}
 use Rattle.qm_math.proofs.FractionLaws.{difference_of_den, product_of-quotient_of, product_of_comm, product_of_den, quotient_of_den, same_refl, same_trans, sum_of-same, sum_of_den}

@@ -10,3 +10,9 @@ pub mod Exactness
 pub mod Lowering
 pub mod Keeping
 pub mod Falling
+pub mod Constants
+pub mod Moving
+pub mod FirstGood
+pub mod Greatest
+pub mod PivotColumns
+pub mod PivotGood

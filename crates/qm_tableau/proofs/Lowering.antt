@@ -20,13 +20,13 @@ use Rattle.qm_tableau.specs.Pivoting.{less_multiple, new_entries, new_entry, new
 use Rattle.qm_tableau.specs.Columns.{column_at}
 use Rattle.qm_tableau.proofs.Exactness.{entry_den, less-value, next-ok, not_zero, other_entry, placed-ok, quotient, same_value}
 
-abs_some : (n : ℤ) → n ≢ pos 0 → 0 < unsigned_abs n
+pub abs_some : (n : ℤ) → n ≢ pos 0 → 0 < unsigned_abs n
 abs_some (pos zero) h = absurd (h refl)
 abs_some (pos (suc n)) h = omega arith
 abs_some (negsuc n) h = omega arith
 
 -- a negative number over a positive one
-quotient_below : (a b : Fraction) → 0 < a.den → 0 < b.den → IsBelow a (whole (pos 0)) → IsBelow (whole (pos 0)) b → IsBelow (quotient_of a b) (whole (pos 0))
+pub quotient_below : (a b : Fraction) → 0 < a.den → 0 < b.den → IsBelow a (whole (pos 0)) → IsBelow (whole (pos 0)) b → IsBelow (quotient_of a b) (whole (pos 0))
 quotient_below a b ad bd below above =
     let nz = above_num b above in
     let q = quotient_of a b in
@@ -38,7 +38,7 @@ quotient_below a b ad bd below above =
     (same_sym (product_of b q) a (product_of-quotient_of a b ad bd nz)) (same_sym (product_of b z) z (product_of-zero b)) below)
 
 -- a quotient times a number: the two numbers that aren't divided by change places
-exchanged : (t p o : Fraction) → 0 < t.den → 0 < o.den → p.num ≢ pos 0 → IsSame (product_of (quotient_of t p) o) (product_of (quotient_of o p) t)
+pub exchanged : (t p o : Fraction) → 0 < t.den → 0 < o.den → p.num ≢ pos 0 → IsSame (product_of (quotient_of t p) o) (product_of (quotient_of o p) t)
 exchanged t p o td od nz =
     let i = inverse_of p in
     let id = inverse_of_den p nz in
@@ -95,12 +95,12 @@ module _ (c : ℕ) (some : 0 < c) (o : Fraction) (os : List Fraction) (p_some : 
       (All-tail (λ (r : List Fraction). All HasPositiveDen r) (t ∷ ts) rows d) rest.1 in
       rw (sym (same_value (first.0 ∷ rest.0) us rest.2)) (All-cons HasPositiveDen (entry_of first.0 0) (column_at rest.0 0) here.0 more.0, (here.1, more.1))
 
-column_den : (rows : List (List Fraction)) (k : ℕ) → All (λ row. All HasPositiveDen row) rows → All HasPositiveDen (column_at rows k)
+pub column_den : (rows : List (List Fraction)) (k : ℕ) → All (λ row. All HasPositiveDen row) rows → All HasPositiveDen (column_at rows k)
 column_den [] k d = All-nil HasPositiveDen
 column_den (row ∷ rows) k d = All-cons HasPositiveDen (entry_of row k) (column_at rows k) (entry_den row k (All-head (λ (r : List Fraction). All HasPositiveDen r) row rows d))
     (column_den rows k (All-tail (λ (r : List Fraction). All HasPositiveDen r) row rows d))
 
-length_column : (rows : List (List Fraction)) (k : ℕ) → length (column_at rows k) ≡ length rows
+pub length_column : (rows : List (List Fraction)) (k : ℕ) → length (column_at rows k) ≡ length rows
 length_column [] k = refl
 length_column (row ∷ rows) k = ap suc (length_column rows k)
 

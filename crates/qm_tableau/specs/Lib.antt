@@ -6,3 +6,4 @@ pub mod Rule
 pub mod Pivoting
 pub mod Exact
 pub mod Columns
+pub mod Good

@@ -1,6 +1,6 @@
 // What the rule names.
 use crate::Choice;
-use crate::tests::games::{below_zero, either, third, wide};
+use crate::tests::games::{below_zero, either, loose, third, wide};
 use crate::tests::pieces::{first_of, pivot};
 use std::test::Fail;
 
@@ -15,6 +15,13 @@ fn a_column_is_greater_in_a_later_row(rt: HostRuntime) -> Result<(), Fail> {
 fn a_row_without_a_candidate_is_void(rt: HostRuntime) -> Result<(), Fail> {
     let tableau = first_of(rt.alloc(), &below_zero(rt.alloc())?)?;
     assert_eq!(rt; tableau.choose(), Ok(Choice::VoidRow(3)));
+    Ok(())
+}
+
+#[test]
+fn no_pivot_is_needed(rt: HostRuntime) -> Result<(), Fail> {
+    let tableau = first_of(rt.alloc(), &loose(rt.alloc())?)?;
+    assert_eq!(rt; tableau.choose(), Ok(Choice::Done));
     Ok(())
 }
 

@@ -14,6 +14,13 @@ pub(super) fn third(alloc: Global) -> Result<Game, Memory> {
     Ok(game_of(alloc, two_vars(alloc)?, one_row(alloc, most)?, objective))
 }
 
+/// Maximise y, where u + 3 y is at most 4.
+pub(super) fn loose(alloc: Global) -> Result<Game, Memory> {
+    let most = row(alloc, &[term(0, 1), term(1, 3)], 4)?;
+    let objective = terms(alloc, &[term(1, 1)])?;
+    Ok(game_of(alloc, two_vars(alloc)?, one_row(alloc, most)?, objective))
+}
+
 /// Maximise y1 + y2 with coefficients of 36 and 37 digits.
 pub(super) fn wide(alloc: Global) -> Result<Game, Memory> {
     let first = row(alloc, &[term(0, GREAT), term(1, GREAT - 3)], GREAT)?;
