@@ -1,12 +1,8 @@
--- What ordered terms give a variable, and whole numbers as fractions of the program.
-use Rattle.std.proofs.Common.{◌≡◌, ◌∙◌, ℕ, zero, suc, ◌+◌, ◌<◌, ◌≤◌, ◌^◌, List, [], ◌∷◌, length, get_or, drop, arith, subst, ap, unsigned_abs, ℤ, pos, ◌+ℤ◌}
-use Rattle.std.specs.Prelude.{Option, Some, None, SomeIff}
+-- What ordered terms give a variable.
+use Rattle.std.proofs.Common.{◌≡◌, ℕ, zero, suc, ◌+◌, ◌<◌, ◌≤◌, List, [], ◌∷◌, length, get_or, drop, arith, subst, pos, ◌+ℤ◌}
 use Rattle.std.proofs.lemmas.Int.{ints}
 use Rattle.std.proofs.lemmas.Bool.Decides.{nat_tests}
 use Rattle.std.proofs.lemmas.List.{at_drop_more, drop_more}
-use Rattle.qm_math.specs.Fraction.{Fraction, whole}
-use Rattle.qm_frac.specs.Lowest.{IsInRange, lowest_terms}
-use Rattle.qm_frac.proofs.Terms.{whole_is, lowest_again, in_range_small}
 use Rattle.qm_model.specs.declared.row.Term.{Term}
 use Rattle.qm_model.specs.Linear.{IsOrdered, IsOrderedFrom, coefficient}
 use Rattle.qm_model.proofs.Forms.{coefficient-later, coefficient-other}
@@ -60,8 +56,3 @@ coefficient_more ts i var h other before =
     let here = at_drop_more (λ xs. coefficient xs var) ts i no_term h in
     let next = coefficient-other (get_or ts i no_term) (drop (i + 1) ts) var other in
     omega (arith, ints, here, next, before)
-
--- a whole number over 1
-pub whole_from : (n : ℤ) → unsigned_abs n < 2 ^ 127 → (r : Option Fraction) → SomeIff r (IsInRange (lowest_terms n (pos 1))) (lowest_terms n (pos 1)) → r ≡ Some (whole n)
-whole_from n h None is = absurd (is (in_range_small n 1 h (omega arith)))
-whole_from n h (Some x) is = ap (λ (y : Fraction). Some y) (is.1 ∙ lowest_again (whole n) (whole_is n h))

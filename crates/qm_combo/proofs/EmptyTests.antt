@@ -1,12 +1,12 @@
 -- What the tests of empty trees go by.
-use Rattle.std.proofs.Common.{◌≡◌, ℕ, zero, suc, ◌+◌, ◌<◌, Bool, true, false, List, [], ◌∷◌, length, drop, get_or, refl, sym, ap, ◌∙◌, subst, arith, Ok, Err}
-use Rattle.std.specs.Prelude.{◌==◌, if◌then◌else◌, slice_set}
+use Rattle.std.proofs.Common.{◌≡◌, ℕ, zero, suc, ◌+◌, ◌<◌, Bool, true, false, List, [], ◌∷◌, length, drop, get_or, refl, sym, ap, ◌∙◌, arith, Ok, Err}
+use Rattle.std.specs.Prelude.{◌==◌}
 use Rattle.std.proofs.lemmas.Bool.Decides.{Decides-eqb}
 use Rattle.qm_frac.specs.declared.leaves.Leaves.{Leaves}
 use Rattle.qm_model.specs.declared.range.Range.{Range}
 use Rattle.qm_model.specs.declared.variable.Var.{Var}
 use Rattle.qm_model.specs.declared.game.Problem.{Problem}
-use Rattle.qm_model.specs.Plays.{is_universal, whole_vars}
+use Rattle.qm_model.specs.Plays.{whole_vars}
 use Rattle.qm_trees.specs.declared.combination.ComboValue.{ComboValue}
 use Rattle.qm_trees.specs.declared.rule.Rule.TheVariants as rule
 use Rattle.qm_trees.specs.declared.empty.Empty.{Empty, Split, Close, out-Empty}
@@ -16,9 +16,8 @@ use Rattle.qm_trees.specs.declared.empty.Empty.TheOpen as node
 use Rattle.qm_trees.specs.declared.empty.EmptyPart.{EmptyPart}
 use Rattle.qm_trees.specs.Entries.{AreEntries, Combination, weighted_rows}
 use Rattle.qm_trees.specs.Evaluation.{value_of}
-use Rattle.qm_trees.specs.Verdicts.{Verdict, Broken, answer_of}
-use Rattle.qm_trees.specs.Ranges.{range_at, judge_parts}
-use Rattle.qm_trees.specs.EmptyJudgement.{Layer, range_of, below_of, all_uncertain, closes_empty, contradicts, is_void, judge_close, judge_empty, judge_end, some_universal_empty}
+use Rattle.qm_trees.specs.Verdicts.{Broken, answer_of}
+use Rattle.qm_trees.specs.EmptyJudgement.{all_uncertain, closes_empty, contradicts, is_void, judge_close, judge_empty, some_universal_empty}
 use Rattle.qm_trees.proofs.Multipliers.{entries_all_positive}
 use Rattle.qm_cover.proofs.PartSteps.{answer_of-line}
 use Rattle.qm_combo.specs.Splits.{judge_here}

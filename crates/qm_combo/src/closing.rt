@@ -9,8 +9,8 @@ ghost use Rattle.qm_trees.specs.RefuteRight.{AreNamed};
 ghost use Rattle.qm_combo.specs.Entries.{HasNarrowRows};
 
 use crate::sums::{add_right_sides, add_variables};
-use crate::terms::{fraction, is_at_most, is_below};
-use qm_frac::Leaves;
+use crate::terms::{is_at_most, is_below};
+use qm_frac::{Leaves, over_one};
 use qm_game::{Bx, Goal, has_empty};
 use qm_model::{Game, Problem, Range, Row};
 use qm_trees::{Combo, ComboValue, Entry};
@@ -47,10 +47,10 @@ fn bound_value(
     ensures { result ≡ value_of problem.now true (weighted_rows problem.now cuts.now entries.now) bx.now }
 {
     let rows = add_right_sides(problem, cuts, entries)?;
-    let right = rows.add(fraction(problem.constant))?;
+    let right = rows.add(over_one(problem.constant))?;
     let least = add_variables(problem, cuts, true, entries, bx)?;
     let gap = right.sub(least)?;
-    let bound = gap.div(fraction(problem.scale))?;
+    let bound = gap.div(over_one(problem.scale))?;
     Ok(ComboValue::Bound(bound))
 }
 

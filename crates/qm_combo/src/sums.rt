@@ -4,8 +4,8 @@ ghost use Rattle.qm_trees.specs.Evaluation.{add_coefficients, add_least, add_rig
 ghost use Rattle.qm_frac.specs.Checked.{and_then};
 ghost use Rattle.qm_combo.specs.Entries.{AreNarrow, HasNarrowRows, IsNarrow, NameNarrowRows};
 
-use crate::terms::{coefficient_of, fraction, row_of};
-use qm_frac::{Frac, Leaves};
+use crate::terms::{coefficient_of, row_of};
+use qm_frac::{Frac, Leaves, over_one};
 use qm_model::{Problem, Range, Row};
 use qm_trees::Entry;
 
@@ -21,7 +21,7 @@ pub(crate) fn add_right_sides(
     let mut sum = Frac::whole(0);
     for entry in entries {
         let row = row_of(problem, cuts, entry.row);
-        let product = entry.by.mul(fraction(row.right))?;
+        let product = entry.by.mul(over_one(row.right))?;
         sum = sum.add(product)?;
     }
     Ok(sum)
@@ -37,7 +37,7 @@ fn add_coefficient(row: &Row, by: Frac, var: u32, sum: Frac) -> Result<Frac, Lea
     if coefficient == 0 {
         return Ok(sum);
     }
-    let product = by.mul(fraction(coefficient))?;
+    let product = by.mul(over_one(coefficient))?;
     sum.add(product)
 }
 
@@ -72,7 +72,7 @@ fn less_objective(problem: &Problem, objective: bool, var: u32, sum: Frac) -> Re
     if coefficient == 0 {
         return Ok(sum);
     }
-    sum.sub(fraction(coefficient))
+    sum.sub(over_one(coefficient))
 }
 
 /// The combination's coefficient of the variable.

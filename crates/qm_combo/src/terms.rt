@@ -1,22 +1,11 @@
-ghost use Rattle.std.specs.Prelude.{◌≡◌, ◌<◌, ◌^◌, IsSome, Some, unsigned_abs};
-ghost use Rattle.qm_math.specs.Fraction.{is_at_most, is_below, whole};
+ghost use Rattle.std.specs.Prelude.{◌≡◌, IsSome, Some};
+ghost use Rattle.qm_math.specs.Fraction.{is_at_most, is_below};
 ghost use Rattle.qm_model.specs.Linear.{IsOrdered, coefficient};
 ghost use Rattle.qm_trees.specs.Entries.{row_named};
 
 use qm_frac::Frac;
 use qm_model::{Problem, Row, RowId, Term};
 use std::cmp::Ordering;
-
-/// The whole number as a fraction.
-pub(crate) fn fraction(n: i128) -> Frac
-    requires { unsigned_abs n < 2 ^ 127 }
-    ensures { result ≡ whole n }
-{
-    match Frac::of(n, 1) {
-        Some(fraction) => fraction,
-        None => Frac::whole(0),
-    }
-}
 
 pub(crate) fn is_below(a: Frac, b: Frac) -> bool
     ensures { result ≡ is_below a b }

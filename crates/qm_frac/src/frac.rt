@@ -205,8 +205,8 @@ impl Frac {
     }
 }
 
-/// A numerator over 1.
-pub(crate) fn over_one(num: i128) -> Frac
+/// The whole number as a fraction.
+pub fn over_one(num: i128) -> Frac
     requires { unsigned_abs num < 2 ^ 127 }
     ensures { result ≡ record { num = num; den = 1 } }
 {

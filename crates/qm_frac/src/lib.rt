@@ -12,7 +12,7 @@ mod orders;
 mod products;
 mod sums;
 
-pub use frac::Frac;
+pub use frac::{Frac, over_one};
 pub use gcds::gcd;
 pub use laws::{
     checked_values_are_exact, checked_values_are_fractions, gcd_is_greatest, quotient_times_divisor,

@@ -19,7 +19,7 @@ pub use fraction::read_frac;
 pub use laws::{one_decimal_a_word, one_word_a_number, zeros_are_zero};
 pub use lines::line_end;
 pub use whole::read_whole;
-pub use writing::write_frac;
+pub use writing::{write_count, write_frac, write_whole};
 
 #[cfg(test)]
 mod tests;

@@ -1,4 +1,5 @@
 ghost use Rattle.std.specs.Prelude.{◌≡◌, ◌++◌, OnOk};
+ghost use Rattle.std.specs.Fmt.{decimal, signed_decimal};
 ghost use Rattle.qm_text.specs.Numbers.{number_word};
 
 use itoa::Buffer;
@@ -15,4 +16,18 @@ pub fn write_frac(f: Frac, out: &mut List<u8>) -> Result<(), Memory>
     }
     out.push(b'/')?;
     out.append(Buffer::new().format(f.den()).as_bytes())
+}
+
+/// Appends a whole number.
+pub fn write_whole(n: i64, out: &mut List<u8>) -> Result<(), Memory>
+    ensures { OnOk result (out.new ≡ out.old ++ signed_decimal n) }
+{
+    out.append(Buffer::new().format(n).as_bytes())
+}
+
+/// Appends a count.
+pub fn write_count(n: usize, out: &mut List<u8>) -> Result<(), Memory>
+    ensures { OnOk result (out.new ≡ out.old ++ decimal n) }
+{
+    out.append(Buffer::new().format(n).as_bytes())
 }

@@ -73,7 +73,7 @@ pub form_of-nothing : (var : ℕ) (xs : List Fraction) → IsSame (form_of (λ n
 form_of-nothing var [] = refl
 form_of-nothing var (x ∷ xs) = nothing_step x (form_of (λ n. whole (pos 0)) (suc var) xs) (form_of-nothing (suc var) xs)
 
-form_of-combined : (k : Fraction) (f g : ℕ → Fraction) (var : ℕ) (xs : List Fraction)
+pub form_of-combined : (k : Fraction) (f g : ℕ → Fraction) (var : ℕ) (xs : List Fraction)
     → IsSame (form_of (λ n. sum_of (product_of k (f n)) (g n)) var xs) (sum_of (product_of k (form_of f var xs)) (form_of g var xs))
 form_of-combined k f g var [] = same_from (k ∷ []) (number (pos 0)) (x0 ⊗ number (pos 0) ⊕ number (pos 0)) [] tt refl
 form_of-combined k f g var (x ∷ xs) =

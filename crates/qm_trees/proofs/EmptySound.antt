@@ -1,7 +1,7 @@
 -- A right tree leaves no universal play in its box.
-use Rattle.std.proofs.Common.{◌≡◌, ◌≢◌, refl, sym, ap, subst, ◌∙◌, ℕ, zero, suc, ◌+◌, ◌*◌, ◌<◌, ◌≤◌, true, false, List, [], ◌∷◌, length, get_or, map, set, drop, All, arith, ℤ, pos, negsuc, ◌+ℤ◌, ◌*ℤ◌, Option, Some, None, inl, inr, unsigned_abs}
-use Rattle.std.specs.Prelude.{◌⊎◌, ◌&&◌, IsTrue, slice_get, slice_set, is_some}
-use Rattle.std.specs.List.{list_all, cons_option}
+use Rattle.std.proofs.Common.{◌≡◌, ◌≢◌, refl, sym, ap, subst, ◌∙◌, ℕ, zero, suc, ◌+◌, ◌*◌, true, false, List, [], ◌∷◌, get_or, map, set, drop, All, arith, ℤ, pos, ◌*ℤ◌, Option, Some, None, inl, inr}
+use Rattle.std.specs.Prelude.{◌⊎◌, ◌&&◌, IsTrue, slice_set, is_some}
+use Rattle.std.specs.List.{cons_option}
 use Rattle.std.specs.Option.{option_map}
 use Rattle.std.proofs.lemmas.Bool.{and_parts}
 use Rattle.std.proofs.Math.IntN.{zero-*ℤ}
@@ -9,7 +9,7 @@ use Rattle.std.proofs.lemmas.Int.{ints}
 use Rattle.std.proofs.lemmas.List.{drop-drop}
 use Rattle.std.proofs.lemmas.List.Elements.{All-cons, All-nil, All-head, All-tail}
 use Rattle.std.proofs.lemmas.Option.{slice_get_within, get_or_from_slice_get}
-use Rattle.qm_math.specs.Fraction.{Fraction, whole, IsAtMost, IsBelow, IsSame}
+use Rattle.qm_math.specs.Fraction.{Fraction, whole, IsAtMost, IsBelow}
 use Rattle.qm_math.specs.Arithmetic.{sum_of, difference_of, product_of, negated}
 use Rattle.qm_math.specs.Ends.{IsWithin as IsWithinEnds}
 use Rattle.qm_math.specs.Over.{over}
@@ -28,8 +28,7 @@ use Rattle.qm_model.specs.declared.row_id.RowId.TheVariants as id
 use Rattle.qm_model.specs.declared.variable.Player.TheVariants.{Exists, All as Universal}
 use Rattle.qm_model.specs.declared.variable.Var.{Var}
 use Rattle.qm_model.specs.declared.game.Problem.{Problem}
-use Rattle.qm_model.specs.Boxes.{IsEmptyRange, whole_box_of}
-use Rattle.qm_model.specs.Linear.{coefficient, form}
+use Rattle.qm_model.specs.Linear.{coefficient}
 use Rattle.qm_model.specs.Plays.{HoldsAt as HoldsInPlay, IsPlay, is_universal, spread, whole_vars}
 use Rattle.qm_model.specs.Points.{HoldsOver}
 use Rattle.qm_model.specs.Sound.{IsOverUniversal, IsSound}
@@ -39,8 +38,8 @@ use Rattle.qm_model.proofs.UncertaintyRows.{IsUniversalAt, spread-here, spread-o
 use Rattle.qm_trees.specs.declared.combination.Entry.{Entry}
 use Rattle.qm_trees.specs.declared.empty.Empty.{Empty, out-Empty}
 use Rattle.qm_trees.specs.declared.empty.Empty.TheOpen as node
-use Rattle.qm_trees.specs.Entries.{Combination, IsPositive, Weighted, row_named, weighted_rows, with_row}
-use Rattle.qm_trees.specs.Evaluation.{if_objective, right_side, combined_coefficient, least_form, least_combined, least_end_by}
+use Rattle.qm_trees.specs.Entries.{Combination, Weighted, row_named, weighted_rows, with_row}
+use Rattle.qm_trees.specs.Evaluation.{right_side, combined_coefficient, least_form, least_combined, least_end_by}
 use Rattle.qm_trees.specs.BoxPoints.{IsInBox, HoldsAt, form_of}
 use Rattle.qm_trees.specs.Picks.{Fit}
 use Rattle.qm_trees.specs.Ranges.{range_at, single}

@@ -1,6 +1,6 @@
 -- A right policy reaches its value on every universal play, and so wins.
-use Rattle.std.proofs.Common.{◌≡◌, ℕ, zero, suc, ◌+◌, ◌<◌, ◌≤◌, Bool, List, [], ◌∷◌, ◌++◌, length, get_or, map, set, take, drop, refl, sym, ap, subst, ◌∙◌, ℤ, pos, ◌+ℤ◌, ◌≤ℤ◌, ◌<ℤ◌, arith, inl, inr}
-use Rattle.std.specs.Prelude.{◌⊎◌, Any, filter, slice_set, if◌then◌else◌}
+use Rattle.std.proofs.Common.{◌≡◌, ℕ, zero, suc, ◌+◌, ◌<◌, ◌≤◌, Bool, List, [], ◌∷◌, ◌++◌, length, get_or, set, take, drop, refl, sym, ap, subst, ◌∙◌, ℤ, pos, arith}
+use Rattle.std.specs.Prelude.{filter, slice_set, if◌then◌else◌}
 use Rattle.std.specs.List.{AllZip}
 use Rattle.std.proofs.Math.Seq.{set-append_seam, get_or-append_seam}
 use Rattle.std.proofs.lemmas.Int.{ints}
@@ -11,7 +11,7 @@ use Rattle.qm_model.specs.declared.range.Range.{Range}
 use Rattle.qm_model.specs.declared.variable.Player.TheVariants.{All as Universal}
 use Rattle.qm_model.specs.declared.variable.Var.{Var}
 use Rattle.qm_model.specs.declared.game.Problem.{Problem}
-use Rattle.qm_model.specs.Boxes.{Cover, FollowOn, bounds_of, whole_box_of}
+use Rattle.qm_model.specs.Boxes.{bounds_of, whole_box_of}
 use Rattle.qm_model.specs.Goals.{Goal, AtLeast}
 use Rattle.qm_model.specs.Legal.{IsLegal, universal_part}
 use Rattle.qm_model.specs.Plays.{AreWithin, IsPlay, IsWithin, is_universal, universal_vars, whole_vars}
