@@ -51,3 +51,4 @@ pub mod KindLaws
 pub mod NameLaws
 pub mod OneSymbols
 pub mod OneAnswer
+pub mod RowCounts

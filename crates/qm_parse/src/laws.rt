@@ -1,4 +1,4 @@
-ghost use Rattle.std.specs.Prelude.{◌≡◌, ◌≢◌, ℕ, false, List, ◌++◌, All, Result, Ok, Err, ◌↔◌, Some, None, ◌<◌, length};
+ghost use Rattle.std.specs.Prelude.{◌≡◌, ◌≢◌, ℕ, false, List, ◌++◌, All, Result, Ok, Err, ◌↔◌, Some, None, ◌<◌, ◌≤◌, length};
 ghost use Rattle.qm_lex.specs.declared.place.Place.{Place};
 ghost use Rattle.qm_parse.specs.declared.ast.Ast.{Ast};
 ghost use Rattle.qm_parse.specs.declared.stage.State.{State};
@@ -52,6 +52,12 @@ pub(crate) fn what_is_read_is_written()
 /// The names among the symbols of tokens know whether a colon follows.
 pub fn symbols_know_their_colons()
     ensures { (text : List ℕ) (names : List (List ℕ)) (line : ℕ) (tokens : List Token) (symbols : List Symbol) → AreSymbols text names line tokens symbols → KnowColons symbols }
+{}
+
+/// A text has no more rows, and no more uncertainty rows, than symbols.
+pub fn each_row_takes_a_symbol()
+    ensures rows { (names : List (List ℕ)) (symbols : List Symbol) (ast : Ast) → KnowColons symbols → IsText names symbols ast → length ast.rows ≤ length symbols }
+    ensures uncertain { (names : List (List ℕ)) (symbols : List Symbol) (ast : Ast) → KnowColons symbols → IsText names symbols ast → length ast.uncertain ≤ length symbols }
 {}
 
 /// A text has no offence exactly where it uses its names right.

@@ -1,9 +1,6 @@
 -- What is written, and the words that spell it.
 use Rattle.std.specs.Prelude.{◌≡◌, ◌≢◌, ℕ, ℤ, pos, neg_ℤ, Bool, true, false, List, [], ◌∷◌, codes, ◌⊎◌, IsTrue}
-use Rattle.qm_small.specs.declared.words.Word.{Word}
-use Rattle.qm_small.specs.declared.written.Written.{Written}
-use Rattle.qm_small.specs.declared.written.WrittenRow.{WrittenRow}
-use Rattle.qm_small.specs.declared.written.WrittenTerm.{WrittenTerm}
+use Rattle.qm_small.specs.Written.{Word, Written, WrittenRow, WrittenTerm}
 use Rattle.qm_small.specs.Spelling.{is_name, IsNumber}
 use Rattle.qm_small.specs.Words.{words}
 

@@ -1,8 +1,6 @@
 -- Which names a small text may use, and where.
 use Rattle.std.specs.Prelude.{◌≢◌, ℕ, ◌≤◌, List, length, All, AllPairs, Contains}
-use Rattle.qm_small.specs.declared.written.Written.{Written}
-use Rattle.qm_small.specs.declared.written.WrittenRow.{WrittenRow}
-use Rattle.qm_small.specs.declared.written.WrittenTerm.{WrittenTerm}
+use Rattle.qm_small.specs.Written.{Written, WrittenRow, WrittenTerm}
 
 -- no name stands twice
 abbrev pub AreDistinct : List (List ℕ) → Type 0

@@ -9,9 +9,7 @@ use Rattle.qm_model.specs.declared.variable.Player.TheVariants.{Exists, All as U
 use Rattle.qm_model.specs.declared.variable.Var.{Var}
 use Rattle.qm_model.specs.declared.game.Sense.TheVariants.{Max}
 use Rattle.qm_model.specs.declared.game.Problem.{Problem}
-use Rattle.qm_small.specs.declared.written.Written.{Written}
-use Rattle.qm_small.specs.declared.written.WrittenRow.{WrittenRow}
-use Rattle.qm_small.specs.declared.written.WrittenTerm.{WrittenTerm}
+use Rattle.qm_small.specs.Written.{Written, WrittenRow, WrittenTerm}
 
 -- a term's factor, with its sign
 abbrev pub signed_factor : WrittenTerm → ℤ

@@ -1,6 +1,6 @@
 -- The words of a text: what stands between blanks.
 use Rattle.std.specs.Prelude.{ℕ, Bool, true, false, not, List, [], ◌∷◌, ◌||◌, ◌==◌, if◌then◌else◌}
-use Rattle.qm_small.specs.declared.words.Word.{Word}
+use Rattle.qm_small.specs.Written.{Word}
 
 -- a space or an LF
 abbrev pub is_blank : ℕ → Bool

@@ -1,0 +1,81 @@
+-- What the tables of a text say is what the text says.
+use Rattle.std.proofs.Common.{◌≡◌, ℕ, ℤ, Bool, not, ◌&&◌, ◌≤◌, List, take, length, Option, pos, ap, ◌∙◌, if◌then◌else◌}
+use Rattle.std.specs.Prelude.{unwrap_or}
+use Rattle.std.proofs.lemmas.List.{take_all}
+use Rattle.std.proofs.lemmas.List.Elements.{filter_agree}
+use Rattle.std.specs.List.{filter}
+use Rattle.qm_frac.specs.Arithmetic.{ceil_of, floor_of}
+use Rattle.qm_math.specs.Fraction.{Fraction, whole}
+use Rattle.qm_model.specs.declared.variable.Player.TheVariants.{Exists, All as Universal}
+use Rattle.qm_model.specs.declared.variable.Var.{Var}
+use Rattle.qm_parse.specs.declared.ast.Ast.{Ast}
+use Rattle.qm_parse.specs.declared.ast.Named.{Named}
+use Rattle.qm_normal.specs.Ends.{greater_of, is_binary, lesser_of, lower_end, upper_end}
+use Rattle.qm_normal.specs.Limits.{fits_domain}
+use Rattle.qm_normal.specs.Tables.{IsEndsOf, IsRolesOf, fits_by, lower_by, universal_by, upper_by, value_by, var_by, whole_by}
+use Rattle.qm_normal.specs.Variables.{continuous_names, is_universal, is_whole, name_of, var_of, whole_names}
+use Rattle.qm_normal.specs.declared.ends.Ends.{Ends}
+use Rattle.qm_normal.specs.declared.roles.Roles.{Roles}
+
+abbrev lower_with : Bool → Option Fraction → Fraction
+lower_with binary value = if binary then greater_of (whole (pos 0)) (unwrap_or value (whole (pos 0))) else unwrap_or value (whole (pos 0))
+
+abbrev upper_with : Bool → Option Fraction → Fraction
+upper_with binary value = if binary then lesser_of (whole (pos 1)) (unwrap_or value (whole (pos 1))) else unwrap_or value (whole (pos 1))
+
+pub lower_same : (ast : Ast) (roles : Roles) (ends : Ends) → IsRolesOf ast roles → IsEndsOf ast ends → (name : ℕ) → lower_by roles ends name ≡ lower_end ast name
+lower_same ast roles ends is_roles is_ends name =
+    ap (λ (b : Bool). lower_with b (value_by ends.lower name)) (is_roles.binary name)
+    ∙ ap (λ (value : Option Fraction). lower_with (is_binary ast name) value) (is_ends.lower name)
+
+pub upper_same : (ast : Ast) (roles : Roles) (ends : Ends) → IsRolesOf ast roles → IsEndsOf ast ends → (name : ℕ) → upper_by roles ends name ≡ upper_end ast name
+upper_same ast roles ends is_roles is_ends name =
+    ap (λ (b : Bool). upper_with b (value_by ends.upper name)) (is_roles.binary name)
+    ∙ ap (λ (value : Option Fraction). upper_with (is_binary ast name) value) (is_ends.upper name)
+
+abbrev low_with : Bool → Fraction → ℤ
+low_with is_whole bound = if is_whole then ceil_of bound else floor_of bound
+
+abbrev high_with : Bool → Fraction → ℤ
+high_with is_whole bound = if is_whole then floor_of bound else ceil_of bound
+
+abbrev var_with : List ℕ → Bool → Bool → Fraction → Fraction → Var
+var_with name universal is_whole low high = record {
+  name = name;
+  player = if universal then Universal else Exists;
+  whole = is_whole;
+  low = low_with is_whole low;
+  high = high_with is_whole high;
+}
+
+pub var_same : (ast : Ast) (roles : Roles) (ends : Ends) → IsRolesOf ast roles → IsEndsOf ast ends → (named : Named) → var_by ast roles ends named ≡ var_of ast named
+var_same ast roles ends is_roles is_ends named =
+    let name = name_of ast named.name in
+    ap (λ (b : Bool). var_with name b (whole_by roles named.name) (lower_by roles ends named.name) (upper_by roles ends named.name)) (is_roles.universal named.name)
+    ∙ ap (λ (b : Bool). var_with name (is_universal ast named.name) b (lower_by roles ends named.name) (upper_by roles ends named.name)) (is_roles.whole named.name)
+    ∙ ap (λ (bound : Fraction). var_with name (is_universal ast named.name) (is_whole ast named.name) bound (upper_by roles ends named.name)) (lower_same ast roles ends is_roles is_ends named.name)
+    ∙ ap (λ (bound : Fraction). var_with name (is_universal ast named.name) (is_whole ast named.name) (lower_end ast named.name) bound) (upper_same ast roles ends is_roles is_ends named.name)
+
+pub fits_same : (ast : Ast) (roles : Roles) (ends : Ends) → IsRolesOf ast roles → IsEndsOf ast ends → (named : Named) → fits_by roles ends named.name ≡ fits_domain (var_of ast named)
+fits_same ast roles ends is_roles is_ends named = ap fits_domain (var_same ast roles ends is_roles is_ends named)
+
+pub whole_names-same : (ast : Ast) (roles : Roles) → IsRolesOf ast roles → filter (λ named. whole_by roles named.name) ast.order ≡ whole_names ast
+whole_names-same ast roles is_roles =
+    filter_agree (λ (named : Named). whole_by roles named.name) (λ named. is_whole ast named.name) (λ named. is_roles.whole named.name) ast.order
+
+pub continuous_names-same : (ast : Ast) (roles : Roles) → IsRolesOf ast roles → filter (λ named. not (whole_by roles named.name)) ast.order ≡ continuous_names ast
+continuous_names-same ast roles is_roles =
+    filter_agree (λ (named : Named). not (whole_by roles named.name)) (λ named. not (is_whole ast named.name)) (λ named. ap not (is_roles.whole named.name)) ast.order
+
+-- a loop over ORDER has kept them all at its end
+pub whole_names-all : (ast : Ast) (roles : Roles) (names order : List Named) (i : ℕ) → IsRolesOf ast roles → order ≡ ast.order → length order ≤ i → names ≡ filter (λ named. whole_by roles named.name) (take i order) → names ≡ whole_names ast
+whole_names-all ast roles names order i is_roles is outside kept =
+    kept ∙ ap (filter (λ (named : Named). whole_by roles named.name)) (take_all i order outside ∙ is) ∙ whole_names-same ast roles is_roles
+
+pub continuous_names-all : (ast : Ast) (roles : Roles) (names order : List Named) (i : ℕ) → IsRolesOf ast roles → order ≡ ast.order → length order ≤ i → names ≡ filter (λ named. not (whole_by roles named.name)) (take i order) → names ≡ continuous_names ast
+continuous_names-all ast roles names order i is_roles is outside kept =
+    kept ∙ ap (filter (λ (named : Named). not (whole_by roles named.name))) (take_all i order outside ∙ is) ∙ continuous_names-same ast roles is_roles
+
+pub unset_same : (ast : Ast) (roles : Roles) → IsRolesOf ast roles → (name : ℕ) → (not (whole_by roles name) && universal_by roles name) ≡ (not (is_whole ast name) && is_universal ast name)
+unset_same ast roles is_roles name =
+    ap (λ (b : Bool). not b && universal_by roles name) (is_roles.whole name) ∙ ap (λ (b : Bool). not (is_whole ast name) && b) (is_roles.universal name)
