@@ -1,0 +1,57 @@
+ghost use Rattle.std.specs.Prelude.{◌≡◌, ◌<◌, ◌^◌, ◌↔◌, All, IsTrue, MatchOption, length, slice_set};
+ghost use Rattle.qm_model.specs.Boxes.{IsBox, IsDead, IsInside};
+ghost use Rattle.qm_model.specs.Sound.{IsRowOver};
+ghost use Rattle.qm_game.specs.First.{HasNone, IsFirst};
+ghost use Rattle.qm_trees.specs.Ranges.{range_at};
+
+use qm_cover::range_in;
+use qm_game::{Bx, Game, Range, Row, least};
+
+/// Whether the row is dead over the box.
+fn is_dead(game: &Game, row: &Row, bx: &Bx) -> bool
+    requires row { IsRowOver game.now.vars row.now }
+    requires bx { IsBox game.now.vars bx.now }
+    ensures { IsTrue result ↔ IsDead bx.now row.now }
+{
+    least(row, bx) > row.right
+}
+
+/// The number of the first row that is dead over the box.
+fn first_dead(game: &Game, rows: &[Row], bx: &Bx) -> Option<u32>
+    requires few { length rows.now < 2 ^ 29 }
+    requires rows { All (IsRowOver game.now.vars) rows.now }
+    requires bx { IsBox game.now.vars bx.now }
+    ensures { MatchOption result (HasNone (IsDead bx.now) rows.now) (IsFirst (IsDead bx.now) rows.now) }
+{
+    for (number, row) in rows.iter().enumerate() {
+        if is_dead(game, row, bx) {
+            return Some(number as u32);
+        }
+    }
+    None
+}
+
+/// The number of the first uncertainty row that is dead over the box.
+pub fn dead_row(game: &Game, bx: &Bx) -> Option<u32>
+    requires { IsBox game.now.vars bx.now }
+    ensures { MatchOption result (HasNone (IsDead bx.now) game.now.urows) (IsFirst (IsDead bx.now) game.now.urows) }
+{
+    let problem = game.problem();
+    first_dead(game, problem.urows.as_slice(), bx)
+}
+
+/// Whether the row is dead once the variable at the depth has this range. The box stays as it was.
+pub fn is_dead_with(game: &Game, row: &Row, depth: usize, bx: &mut Bx, range: Range) -> bool
+    requires row { IsRowOver game.now.vars row.now }
+    requires bx { IsBox game.now.vars bx.old }
+    requires depth { depth < length bx.old }
+    requires inside { IsInside range (range_at bx.old depth) }
+    ensures answer { IsTrue result ↔ IsDead (slice_set bx.old depth range) row.now }
+    ensures same { bx.new ≡ bx.old }
+{
+    let before = range_in(bx.as_slice(), depth);
+    bx.set(depth, range);
+    let answer = is_dead(game, row, bx);
+    bx.set(depth, before);
+    answer
+}
