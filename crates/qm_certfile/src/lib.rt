@@ -7,7 +7,6 @@ mod endings;
 mod laws;
 mod lines;
 mod trees;
-mod words;
 mod writer;
 
 pub use certificate::Certificate;

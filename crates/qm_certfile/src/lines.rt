@@ -6,11 +6,10 @@ ghost use Rattle.qm_certfile.specs.Pieces.{spaced};
 ghost use Rattle.qm_certfile.specs.Styles.{first_style, numbered};
 ghost use Rattle.qm_certfile.specs.TreeLines.{close_line, entry_word, objective_words};
 
-use crate::words::{write_count, write_whole};
 use qm_frac::Frac;
 use qm_io::{List, Memory};
 use qm_model::{Range, RowId};
-use qm_text::write_frac;
+use qm_text::{write_count, write_frac, write_whole};
 use qm_trees::{Combo, Entry};
 
 /// Appends a line of one word.
@@ -27,7 +26,7 @@ pub fn write_value(word: &[u8], value: i64, out: &mut List<u8>) -> Result<(), Me
 {
     out.append(word)?;
     out.push(b' ')?;
-    write_whole(out, value)?;
+    write_whole(value, out)?;
     out.push(b'\n')
 }
 
@@ -37,7 +36,7 @@ pub fn write_parts_line(word: &[u8], count: usize, out: &mut List<u8>) -> Result
 {
     out.append(word)?;
     out.push(b' ')?;
-    write_count(out, count)?;
+    write_count(count, out)?;
     out.push(b'\n')
 }
 
@@ -46,9 +45,9 @@ pub fn write_split(var: u32, count: usize, out: &mut List<u8>) -> Result<(), Mem
     ensures { OnOk result (out.new ≡ out.old ++ line_text (codes "split" ∷ decimal (var + 1) ∷ decimal count ∷ [])) }
 {
     out.append(b"split ")?;
-    write_count(out, var as usize + 1)?;
+    write_count(var as usize + 1, out)?;
     out.push(b' ')?;
-    write_count(out, count)?;
+    write_count(count, out)?;
     out.push(b'\n')
 }
 
@@ -57,9 +56,9 @@ pub fn write_range(range: Range, out: &mut List<u8>) -> Result<(), Memory>
     ensures { OnOk result (out.new ≡ out.old ++ line_text (codes "range" ∷ signed_decimal range.low ∷ signed_decimal range.high ∷ [])) }
 {
     out.append(b"range ")?;
-    write_whole(out, range.low)?;
+    write_whole(range.low, out)?;
     out.push(b' ')?;
-    write_whole(out, range.high)?;
+    write_whole(range.high, out)?;
     out.push(b'\n')
 }
 
@@ -69,7 +68,7 @@ fn write_wholes(values: &[i64], out: &mut List<u8>) -> Result<(), Memory>
 {
     for value in values {
         out.push(b' ')?;
-        write_whole(out, *value)?;
+        write_whole(*value, out)?;
     }
     Ok(())
 }
@@ -108,7 +107,7 @@ pub fn write_pick(value: i64, completion: &[i64], out: &mut List<u8>) -> Result<
     ensures { OnOk result (out.new ≡ out.old ++ line_text (codes "pick" ∷ signed_decimal value ∷ map signed_decimal completion.now)) }
 {
     out.append(b"pick ")?;
-    write_whole(out, value)?;
+    write_whole(value, out)?;
     write_wholes(completion, out)?;
     out.push(b'\n')
 }
@@ -120,15 +119,15 @@ fn write_row_name(row: RowId, out: &mut List<u8>) -> Result<(), Memory>
     match row {
         RowId::Row(n) => {
             out.push(b'r')?;
-            write_count(out, n as usize + 1)
+            write_count(n as usize + 1, out)
         }
         RowId::Uncertain(n) => {
             out.push(b'u')?;
-            write_count(out, n as usize + 1)
+            write_count(n as usize + 1, out)
         }
         RowId::Cut(n) => {
             out.push(b'c')?;
-            write_count(out, n as usize + 1)
+            write_count(n as usize + 1, out)
         }
     }
 }

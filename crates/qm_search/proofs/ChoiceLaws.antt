@@ -1,5 +1,5 @@
 -- The choices of an existential variable: one more, and what all come to.
-use Rattle.std.proofs.Common.{◌≡◌, ℕ, ◌+◌, Bool, true, false, List, [], ◌∷◌, ◌++◌, map, get_or, All, arith, refl, sym, ap, subst, ◌∙◌, ℤ, pos, ◌+ℤ◌, ◌≤ℤ◌, Option, Some, None}
+use Rattle.std.proofs.Common.{◌≡◌, ℕ, ◌+◌, Bool, true, false, List, [], ◌∷◌, ◌++◌, map, get_or, All, arith, refl, sym, ap, subst, ◌∙◌, ℤ, pos, ◌+ℤ◌, ◌≤ℤ◌, ◌<ℤ◌, Option, Some, None}
 use Rattle.std.specs.Prelude.{slice_set, if◌then◌else◌}
 use Rattle.std.proofs.lemmas.Int.{ints}
 use Rattle.std.proofs.lemmas.List.Elements.{All-push}
@@ -28,7 +28,7 @@ use Rattle.qm_search.specs.declared.choices.Best.{Best}
 use Rattle.qm_search.specs.declared.choices.Choices.{Choices}
 use Rattle.qm_search.specs.Choices.{AreChoices, IsBest, better_of, goal_beyond}
 use Rattle.qm_search.specs.Outcomes.{IsReached, Secures, Refutes}
-use Rattle.qm_search.specs.Parts.{AreSingles}
+use Rattle.qm_search.specs.Parts.{AreSingles, IsBehind}
 use Rattle.qm_search.proofs.BelowTests.{at_most_of_below, at_most_of_not}
 use Rattle.qm_search.proofs.SingleParts.{push_singles, singles_cover}
 
@@ -120,23 +120,24 @@ module _ (P : Problem) (later : List Var) (depth : ℕ) (bx : List Range) where
   chooses : (value : ℤ) (below : Policy) → out-Policy (Choose value below) ≡ policy_node.Choose value below
   chooses value below = ap out-Policy (sym (rolls-Choose value below)) ∙ out-roll-Policy (policy_node.Choose value below)
 
-  module _ (x : Var) (player : x.player ≡ Exists) (choices : Choices) (are : AreChoices P later depth bx (range_at bx depth).low ((range_at bx depth).high +ℤ pos 1) choices) where
+  module _ (x : Var) (player : x.player ≡ Exists) (choices : Choices) (next : ℤ) (are : AreChoices P later depth bx (range_at bx depth).low next choices)
+      (behind : IsBehind (range_at bx depth) next) where
     pub over_refutes : Refutes P (x ∷ later) depth bx (goal_beyond choices.best) (Over choices.parts)
     over_refutes =
         let G = goal_beyond choices.best in
         record {
           right = subst (IsRightMove P [] G x later depth (IsRightRefutation P [] [] G later (depth + 1)) bx) (sym (overs choices.parts))
-              (singles_cover (range_at bx depth) (map range_of choices.parts) are.singles, (λ universal. cc), (λ k d h. (are.below k d h).right));
+              (singles_cover (range_at bx depth) next (map range_of choices.parts) are.singles behind, (λ universal. cc), (λ k d h. (are.below k d h).right));
           in_range = subst (IsMoveInRange P [] G depth (IsRefutationInRange P [] [] G later (depth + 1)) bx) (sym (overs choices.parts)) (λ k d h. (are.below k d h).in_range);
         }
 
     pub choice_reached : (best : Best) → choices.best ≡ Some best → IsReached P (x ∷ later) depth bx best.value (Choose best.choice best.policy) (Over choices.parts)
     choice_reached best e =
-        let tried : IsBest P later depth bx (range_at bx depth).low ((range_at bx depth).high +ℤ pos 1) (Some best) =
-        subst (IsBest P later depth bx (range_at bx depth).low ((range_at bx depth).high +ℤ pos 1)) e are.best in
+        let tried : IsBest P later depth bx (range_at bx depth).low next (Some best) = subst (IsBest P later depth bx (range_at bx depth).low next) e are.best in
+        let some : (range_at bx depth).low <ℤ next = omega (arith, ints, tried.from, tried.before) in
         let secures : Secures P (x ∷ later) depth bx best.value (Choose best.choice best.policy) = record {
           right = subst (policy_right.IsRightMove P x depth (IsRightPolicy P best.value later (depth + 1)) bx) (sym (chooses best.choice best.policy))
-              (player, (tried.from, omega (arith, ints, tried.before)), tried.secures.right);
+              (player, (tried.from, omega (arith, ints, tried.before, behind.near some)), tried.secures.right);
           in_range = subst (policy_right.IsMoveInRange P depth (IsPolicyInRange P best.value later (depth + 1)) bx) (sym (chooses best.choice best.policy)) tried.secures.in_range;
         } in
         record {

@@ -26,7 +26,6 @@ use Rattle.qm_trees.proofs.CombinationCloses.{closing_exact}
 use Rattle.qm_trees.proofs.Multipliers.{weighted_dens}
 use Rattle.qm_trees.proofs.WholeValues.{dead_row_closes}
 use Rattle.qm_search.specs.Outcomes.{Refutes}
-use Rattle.qm_search.specs.Plain.{IsPlain}
 
 -- a refutation that closes at once
 pub closes_at_once : (combo : Combination) → out-Refute (Close combo) ≡ node.Close combo
@@ -75,9 +74,10 @@ module _ (P : Problem) (depth : ℕ) (bx : List Range) (sound : IsSound P) (box 
       refutes_by P depth bx G (record { objective = false; entries = once row ∷ [] }) tree sound proper positive named yes is
 
   -- the first dead row alone refutes the goal
-  pub first_dead_refutes : (row : RowId) (tree : Refute) → IsPlain P → IsFirstDead P bx (Some row)
+  pub first_dead_refutes : (row : RowId) (tree : Refute) → IsFirstDead P bx (Some row)
       → tree ≡ Close (record { objective = false; entries = once row ∷ [] }) → Refutes P [] depth bx G tree
-  first_dead_refutes (id.Row n) tree plain first is =
+  first_dead_refutes (id.Row n) tree first is =
       dead_refutes (id.Row n) tree (slice_get P.rows n) refl (with_all (IsDead bx) (IsRowOver P.vars) P.rows n sound.rows first.has) is
-  first_dead_refutes (id.Uncertain n) tree plain first is = absurd (subst (λ (rows : List Row). IsSomeAnd (slice_get rows n) (IsDead bx)) plain.no_uncertainty first.1.has)
-  first_dead_refutes (id.Cut n) tree plain first is = absurd first
+  first_dead_refutes (id.Uncertain n) tree first is =
+      dead_refutes (id.Uncertain n) tree (slice_get P.urows n) refl (with_all (IsDead bx) (IsRowOver P.vars) P.urows n sound.urows first.1.has) is
+  first_dead_refutes (id.Cut n) tree first is = absurd first

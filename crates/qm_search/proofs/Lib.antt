@@ -1,10 +1,10 @@
 pub mod SingleParts
 pub mod BelowTests
 pub mod ChoiceLaws
-pub mod LowEnds
 pub mod AnswerLaws
 pub mod SearchPlaces
-pub mod LegalPlay
+pub mod Completions
+pub mod RightPicks
 pub mod WholeBound
 pub mod DeadRows
 pub mod SetLeaves

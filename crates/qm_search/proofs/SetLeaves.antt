@@ -1,5 +1,5 @@
 -- Where all variables are set and no row is dead: the leaf is right at the objective's value, and nothing above it is reached.
-use Rattle.std.proofs.Common.{◌≡◌, ℕ, ◌<◌, List, [], All, sym, subst, ap, ◌∙◌, true, Ok, None}
+use Rattle.std.proofs.Common.{◌≡◌, ℕ, ◌<◌, List, [], length, All, sym, subst, ap, ◌∙◌, true, Ok, None}
 use Rattle.std.proofs.lemmas.List.Elements.{All-nil}
 use Rattle.qm_math.specs.Fraction.{Fraction}
 use Rattle.qm_model.specs.declared.range.Range.{Range}
@@ -25,7 +25,6 @@ use Rattle.qm_trees.proofs.WholeValues.{objective_closes}
 use Rattle.qm_trees.proofs.WholeLeaves.{whole_leaf_passes}
 use Rattle.qm_search.specs.Outcomes.{Secures, Refutes}
 use Rattle.qm_search.specs.Places.{IsSingle}
-use Rattle.qm_search.specs.Plain.{IsPlain}
 use Rattle.qm_search.proofs.WholeBound.{bound_is_objective}
 use Rattle.qm_search.proofs.DeadRows.{refutes_by}
 
@@ -38,11 +37,11 @@ module _ (P : Problem) (depth : ℕ) (bx : List Range) (sound : IsSound P) (box 
   bound_den = (bounds P [] bx (Bound b) (All-nil (λ (w : Weighted). 0 < w.by.den)) sound.scale_positive is).positive
 
   -- the leaf without continuous values reaches the bound of the objective
-  pub leaf_secures : (policy : Policy) → IsPlain P → All IsSingle bx → IsFirstDead P bx None → policy ≡ Leaf [] → Secures P [] depth bx b policy
-  leaf_secures policy plain set alive ends =
+  pub leaf_secures : (policy : Policy) → P.wholes ≡ length P.vars → All IsSingle bx → IsFirstDead P bx None → policy ≡ Leaf [] → Secures P [] depth bx b policy
+  leaf_secures policy all_whole set alive ends =
       let layer : node.Leaf [] ≡ out-Policy policy = sym (ap out-Policy ends ∙ ends_at_once []) in
       let passes : leaf_passes P b bx [] ≡ Ok true =
-      subst (λ (v : Fraction). leaf_passes P v bx [] ≡ Ok true) (sym (bound_is_objective P bx sound box b is)) (whole_leaf_passes P bx sound box plain.all_whole set alive.0) in
+      subst (λ (v : Fraction). leaf_passes P v bx [] ≡ Ok true) (sym (bound_is_objective P bx sound box b is)) (whole_leaf_passes P bx sound box all_whole set alive.0) in
       let leaf = leaf_of_passes P b bx [] sound.scale_positive bound_den passes in
       record {
         right = subst (λ (l : Layer). IsRightEnd P b bx l) layer leaf.0;

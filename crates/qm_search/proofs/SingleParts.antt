@@ -1,11 +1,11 @@
 -- Parts of one value each cover their range.
-use Rattle.std.proofs.Common.{◌≡◌, List, [], ◌∷◌, ◌++◌, map, arith, sym, ap, subst, ◌∙◌, ℤ, pos, ◌+ℤ◌, ◌≤ℤ◌, refl}
+use Rattle.std.proofs.Common.{◌≡◌, List, [], ◌∷◌, ◌++◌, map, arith, sym, ap, subst, ◌∙◌, ℤ, pos, ◌+ℤ◌, ◌≤ℤ◌, ◌<ℤ◌, refl}
 use Rattle.std.proofs.lemmas.Int.{ints}
 use Rattle.std.proofs.lemmas.List.{map-append}
 use Rattle.qm_model.specs.declared.range.Range.{Range}
 use Rattle.qm_model.specs.Boxes.{Cover, FollowOn}
 use Rattle.qm_trees.specs.Ranges.{single}
-use Rattle.qm_search.specs.Parts.{AreSingles}
+use Rattle.qm_search.specs.Parts.{AreSingles, IsBehind}
 
 singles_push : (low next : ℤ) (rs : List Range) → AreSingles low next rs → AreSingles low (next +ℤ pos 1) (rs ++ single next ∷ [])
 singles_push low next [] e = (ap single (sym e), ap (λ n. n +ℤ pos 1) e)
@@ -23,6 +23,13 @@ singles_follow low high (r ∷ rs) h =
     let rest : FollowOn (low +ℤ pos 1) high rs = singles_follow (low +ℤ pos 1) high rs h.1 in
     subst (λ (s : Range). (s.low ≡ low) × (low ≤ℤ s.high) × FollowOn (s.high +ℤ pos 1) high rs) (sym h.0) (refl, omega (arith, ints), rest)
 
-pub singles_cover : (covered : Range) (rs : List Range) → AreSingles covered.low (covered.high +ℤ pos 1) rs → Cover covered rs
-singles_cover covered [] e = omega (arith, ints, e)
-singles_cover covered (r ∷ rs) h = singles_follow covered.low covered.high (r ∷ rs) h
+singles_below : (low next : ℤ) (rs : List Range) → AreSingles low next rs → low ≤ℤ next
+singles_below low next [] e = omega (arith, ints, e)
+singles_below low next (r ∷ rs) h = omega (arith, ints, singles_below (low +ℤ pos 1) next rs h.1)
+
+pub singles_cover : (covered : Range) (next : ℤ) (rs : List Range) → AreSingles covered.low next rs → IsBehind covered next → Cover covered rs
+singles_cover covered next [] e behind = omega (arith, ints, e, behind.above)
+singles_cover covered next (r ∷ rs) h behind =
+    let some : covered.low <ℤ next = omega (arith, ints, singles_below (covered.low +ℤ pos 1) next rs h.1) in
+    let last : next ≡ covered.high +ℤ pos 1 = omega (arith, ints, behind.above, behind.near some) in
+    singles_follow covered.low covered.high (r ∷ rs) (subst (λ n. AreSingles covered.low n (r ∷ rs)) last h)

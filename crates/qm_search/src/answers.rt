@@ -1,126 +1,118 @@
-ghost use Rattle.std.specs.Prelude.{◌≡◌, ◌∷◌, ◌+◌, ℕ, ℤ, pos, ◌+ℤ◌, ◌≤ℤ◌, List, All, IfOk, drop, slice_set};
-ghost use Rattle.qm_math.specs.Ranges.{IsBetween};
+ghost use Rattle.std.specs.Prelude.{◌≡◌, ◌∷◌, ◌+◌, ℕ, ℤ, pos, ◌+ℤ◌, ◌≤ℤ◌, List, IfOk, IsSome};
 ghost use Rattle.qm_model.specs.declared.game.Problem.{Problem};
 ghost use Rattle.qm_model.specs.declared.range.Range.{Range};
 ghost use Rattle.qm_model.specs.declared.variable.Player.TheVariants.{All as Universal};
 ghost use Rattle.qm_model.specs.declared.variable.Var.{Var};
-ghost use Rattle.qm_model.specs.Boxes.{whole_box_of};
-ghost use Rattle.qm_model.specs.Goals.{Goal};
 ghost use Rattle.qm_trees.specs.Ranges.{range_at, single};
 ghost use Rattle.qm_trees.specs.declared.policy.Below.TheOpen as node;
 ghost use Rattle.qm_trees.specs.PolicyJudgement.{below_of, range_of};
-ghost use Rattle.qm_search.specs.Answers.{AreAnswers};
-ghost use Rattle.qm_search.specs.Outcomes.{IsOutcome, IsReached, Refutes};
-ghost use Rattle.qm_search.specs.Plain.{HasValues, IsPlain};
+ghost use Rattle.qm_search.specs.Answers.{AreAnswers, IsReply, is_worse, worse_of};
+ghost use Rattle.qm_search.specs.Outcomes.{IsOutcome};
+ghost use Rattle.qm_search.specs.Parts.{IsBehind};
 
-use crate::completion::low_ends;
+use crate::answer::Reply;
 use crate::order::is_less;
 use crate::outcome::Outcome;
 use qm_cover::single;
 use qm_frac::Frac;
-use qm_game::Var;
 use qm_io::Memory;
-use qm_trees::{Below, Policy, PolicyPart, Refute};
-use sqlite_items::{Boxed, Items};
+use qm_trees::{Below, Empty, Policy, PolicyPart, Refute};
+use sqlite_items::Items;
 use std::alloc::Global;
 
-/// The values of a universal variable so far, all of them answered: the worst of them, the refutation of anything
-/// better there, and a policy below each.
+/// The worst value so far, with a refutation of anything better, which picks what leads to it.
+#[derive(Debug, Drop)]
+pub struct Worst {
+    value: Frac,
+    refute: Refute,
+}
+
+/// The values of a universal variable so far: the worst that one of them leads to, where one is legal, and what the
+/// policy has for each.
 #[derive(Debug, Drop)]
 pub struct Answers {
-    value: Frac,
-    worst: i64,
-    refute: Refute,
+    worst: Option<Worst>,
     parts: Items<PolicyPart>,
 }
 
-/// The universal player's pick of a value, with the low ends of its later variables.
-pub fn pick(alloc: Global, later: &[Var], value: i64, below: Refute) -> Result<Refute, Memory>
-    requires { All HasValues later.now }
-    ensures { (P : Problem) (x : Var) (depth : ℕ) (bx : List Range) (G : Goal) → IsPlain P → x.player ≡ Universal → drop (depth + 1) bx ≡ whole_box_of later.now → IsBetween (range_at bx depth).low (range_at bx depth).high value → Refutes P later.now (depth + 1) (slice_set bx depth (single value)) G below → IfOk result (Refutes P (x ∷ later.now) depth bx G) }
+/// Whether the value is worse than the worst so far.
+fn is_worse(value: Frac, worst: &Option<Worst>) -> bool
+    ensures { result ≡ is_worse value worst.now }
 {
-    Ok(Refute::Pick {
-        value,
-        completion: low_ends(alloc, later)?,
-        below: Boxed::new(alloc, below).map_err(|_| Memory)?,
-    })
+    match worst {
+        None => true,
+        Some(worst) => is_less(value, worst.value),
+    }
+}
+
+/// The worse of the two, and the earlier where they are the same.
+fn worse(worst: Option<Worst>, found: Worst) -> Option<Worst>
+    ensures { result ≡ worse_of worst found }
+{
+    if is_worse(found.value, &worst) {
+        Some(found)
+    } else {
+        worst
+    }
 }
 
 impl Answers {
-    /// The first value, and what is reached against it.
-    pub fn first(
-        alloc: Global,
-        at: i64,
-        value: Frac,
-        policy: Policy,
-        refute: Refute,
-    ) -> Result<Answers, Memory>
-        ensures { (P : Problem) (later : List Var) (depth : ℕ) (bx : List Range) → IsReached P later (depth + 1) (slice_set bx depth (single at)) value policy refute → IfOk result (AreAnswers P later depth bx at (at +ℤ pos 1)) }
+    /// No value yet.
+    pub fn new(alloc: Global) -> Answers
+        ensures { (P : Problem) (x : Var) (later : List Var) (depth : ℕ) (bx : List Range) (first low : ℤ) → low ≤ℤ first → AreAnswers P x later depth bx first low low result }
     {
-        let mut parts = Items::new(alloc);
-        parts.push(part(at, policy)).map_err(|_| Memory)?;
-        Ok(Answers {
-            value,
-            worst: at,
-            refute,
-            parts,
-        })
+        Answers {
+            worst: None,
+            parts: Items::new(alloc),
+        }
     }
 
-    /// The values with one more, and what is reached against it.
-    pub fn with(
-        self,
-        at: i64,
-        value: Frac,
-        policy: Policy,
-        refute: Refute,
-    ) -> Result<Answers, Memory>
-        ensures { (P : Problem) (later : List Var) (depth : ℕ) (bx : List Range) (low : ℤ) → low ≤ℤ at → AreAnswers P later depth bx low at self → IsReached P later (depth + 1) (slice_set bx depth (single at)) value policy refute → IfOk result (AreAnswers P later depth bx low (at +ℤ pos 1)) }
+    /// The values with one more, and the reply to it.
+    pub fn with(self, at: i64, reply: Reply) -> Result<Answers, Memory>
+        ensures { (P : Problem) (x : Var) (later : List Var) (depth : ℕ) (bx : List Range) (first low : ℤ) → AreAnswers P x later depth bx first low at self → IsReply P x later depth bx first at reply → IfOk result (AreAnswers P x later depth bx first low (at +ℤ pos 1)) }
     {
-        let Answers {
-            value: least,
-            worst,
-            refute: kept,
-            mut parts,
-        } = self;
-        parts.push(part(at, policy)).map_err(|_| Memory)?;
-        if is_less(value, least) {
-            Ok(Answers {
+        let Answers { worst, mut parts } = self;
+        match reply {
+            Reply::Illegal(tree) => {
+                parts.push(illegal_part(at, tree)).map_err(|_| Memory)?;
+                Ok(Answers { worst, parts })
+            }
+            Reply::Reached {
                 value,
-                worst: at,
+                policy,
                 refute,
-                parts,
-            })
-        } else {
-            Ok(Answers {
-                value: least,
-                worst,
-                refute: kept,
-                parts,
-            })
+            } => {
+                parts.push(part(at, policy)).map_err(|_| Memory)?;
+                let found = Worst { value, refute };
+                Ok(Answers {
+                    worst: worse(worst, found),
+                    parts,
+                })
+            }
         }
     }
 
     /// What all the values come to.
-    pub fn outcome(self, alloc: Global, later: &[Var]) -> Result<Outcome, Memory>
-        requires { All HasValues later.now }
-        ensures { (P : Problem) (x : Var) (depth : ℕ) (bx : List Range) → IsPlain P → x.player ≡ Universal → drop (depth + 1) bx ≡ whole_box_of later.now → AreAnswers P later.now depth bx (range_at bx depth).low ((range_at bx depth).high +ℤ pos 1) self → IfOk result (IsOutcome P (x ∷ later.now) depth bx) }
+    pub fn outcome(self) -> Outcome
+        requires { IsSome self.worst }
+        ensures { (P : Problem) (x : Var) (later : List Var) (depth : ℕ) (bx : List Range) (first next : ℤ) → x.player ≡ Universal → AreAnswers P x later depth bx first (range_at bx depth).low next self → IsBehind (range_at bx depth) next → IsOutcome P (x ∷ later) depth bx result }
     {
-        let Answers {
-            value,
-            worst,
-            refute,
-            parts,
-        } = self;
-        Ok(Outcome::Reached {
-            value,
-            policy: Policy::Answer { parts },
-            refute: pick(alloc, later, worst, refute)?,
-        })
+        let Answers { worst, parts } = self;
+        match worst {
+            None => unreachable!(),
+            Some(worst) => {
+                let Worst { value, refute } = worst;
+                Outcome::Reached {
+                    value,
+                    policy: Policy::Answer { parts },
+                    refute,
+                }
+            }
+        }
     }
 }
 
-/// The part of this value alone.
+/// The part of this value alone, with a policy.
 fn part(value: i64, below: Policy) -> PolicyPart
     ensures range { range_of result ≡ single value }
     ensures below { below_of result ≡ node.On below }
@@ -128,5 +120,16 @@ fn part(value: i64, below: Policy) -> PolicyPart
     PolicyPart {
         range: single(value),
         below: Below::On(below),
+    }
+}
+
+/// The part of this value alone, which no universal play has.
+fn illegal_part(value: i64, tree: Empty) -> PolicyPart
+    ensures range { range_of result ≡ single value }
+    ensures below { below_of result ≡ node.Illegal tree }
+{
+    PolicyPart {
+        range: single(value),
+        below: Below::Illegal(tree),
     }
 }

@@ -7,6 +7,7 @@ ghost use Rattle.qm_trees.specs.Ranges.{range_at, single};
 ghost use Rattle.qm_trees.specs.RefuteJudgement.{below_of, range_of};
 ghost use Rattle.qm_search.specs.Choices.{AreChoices, better_of, is_better};
 ghost use Rattle.qm_search.specs.Outcomes.{IsOutcome};
+ghost use Rattle.qm_search.specs.Parts.{IsBehind};
 
 use crate::order::is_less;
 use crate::outcome::Outcome;
@@ -95,7 +96,7 @@ impl Choices {
 
     /// What all the choices come to.
     pub fn outcome(self, alloc: Global) -> Result<Outcome, Memory>
-        ensures { (P : Problem) (x : Var) (later : List Var) (depth : ℕ) (bx : List Range) → x.player ≡ Exists → AreChoices P later depth bx (range_at bx depth).low ((range_at bx depth).high +ℤ pos 1) self → IfOk result (IsOutcome P (x ∷ later) depth bx) }
+        ensures { (P : Problem) (x : Var) (later : List Var) (depth : ℕ) (bx : List Range) (next : ℤ) → x.player ≡ Exists → AreChoices P later depth bx (range_at bx depth).low next self → IsBehind (range_at bx depth) next → IfOk result (IsOutcome P (x ∷ later) depth bx) }
     {
         let Choices { best, parts } = self;
         let refute = Refute::Over { parts };

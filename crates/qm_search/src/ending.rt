@@ -1,18 +1,17 @@
-ghost use Rattle.std.specs.Prelude.{IfOk};
+ghost use Rattle.std.specs.Prelude.{◌≡◌, IfOk, length};
 ghost use Rattle.qm_certfile.specs.Passes.{Passes, ending_of};
 ghost use Rattle.qm_model.specs.declared.game.Problem.{Problem};
 ghost use Rattle.qm_model.specs.Boxes.{whole_box_of};
 ghost use Rattle.qm_model.specs.Endings.{HasEnding};
 ghost use Rattle.qm_model.specs.Plays.{IsPlay, whole_vars};
 ghost use Rattle.qm_search.specs.Outcomes.{IsOutcome};
-ghost use Rattle.qm_search.specs.Plain.{IsPlain};
 
-use crate::completion::low_ends;
 use crate::outcome::Outcome;
 use crate::walk::best;
 use qm_certfile::Certificate;
 use qm_game::{Game, whole_box};
 use qm_io::{List, Memory};
+use qm_legal::{Legality, legal};
 use std::alloc::Global;
 
 /// The certificate of an outcome over the whole box, with a universal play.
@@ -34,15 +33,19 @@ fn certified(outcome: Outcome, legal: List<i64>) -> Certificate
     }
 }
 
-/// How the game ends, by a certificate that passes. `Memory`, where there is none for it.
+/// How the game of whole variables alone ends, by a certificate that passes. `Memory`, where there is none for it.
 pub fn solve(alloc: Global, game: &Game) -> Result<Certificate, Memory>
-    requires { IsPlain game.now }
+    requires { game.now.wholes ≡ length game.now.vars }
     ensures passes { IfOk result (Passes game.now) }
     ensures ending { IfOk result (λ certificate. HasEnding game.now (ending_of certificate)) }
 {
     let vars = game.problem().vars.as_slice();
-    let legal = low_ends(alloc, vars)?;
     let mut bx = whole_box(alloc, game)?;
-    let outcome = best(alloc, game, vars, 0, &mut bx)?;
-    Ok(certified(outcome, legal))
+    match legal(alloc, game, 0, &bx)? {
+        Legality::Illegal(tree) => Ok(Certificate::Empty(tree)),
+        Legality::Completion(play) => {
+            let outcome = best(alloc, game, vars, 0, &mut bx, play.as_slice())?;
+            Ok(certified(outcome, play))
+        }
+    }
 }

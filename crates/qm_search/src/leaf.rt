@@ -6,7 +6,6 @@ ghost use Rattle.qm_trees.specs.declared.refutation.Refute.{Close};
 ghost use Rattle.qm_trees.specs.Evaluation.{value_of};
 ghost use Rattle.qm_search.specs.Outcomes.{IsOutcome};
 ghost use Rattle.qm_search.specs.Places.{IsSingle};
-ghost use Rattle.qm_search.specs.Plain.{IsPlain};
 
 use crate::outcome::Outcome;
 use qm_combo::value;
@@ -54,7 +53,7 @@ fn closed_by(alloc: Global, row: RowId) -> Result<Refute, Memory>
 
 /// The outcome where all variables are set: the first row that doesn't hold closes it; else the objective alone does.
 pub fn outcome_at_end(alloc: Global, game: &Game, bx: &Bx) -> Result<Outcome, Memory>
-    requires plain { IsPlain game.now }
+    requires all_whole { game.now.wholes ≡ length game.now.vars }
     requires bx { IsBox game.now.vars bx.now }
     requires set { All IsSingle bx.now }
     ensures { IfOk result (IsOutcome game.now [] (length game.now.vars) bx.now) }

@@ -2,19 +2,24 @@ ghost use Rattle.std.specs.Prelude.{◌≡◌, ◌∷◌, ◌+◌, IfOk, slice_s
 ghost use Rattle.qm_model.specs.Plays.{IsWithin};
 ghost use Rattle.qm_model.specs.declared.variable.Player.TheVariants.{Exists, All as Universal};
 ghost use Rattle.qm_trees.specs.Ranges.{single};
+ghost use Rattle.qm_search.specs.Answers.{IsAnswer};
 ghost use Rattle.qm_search.specs.Outcomes.{IsOutcome};
-ghost use Rattle.qm_search.specs.Places.{IsSearchPlace};
+ghost use Rattle.qm_search.specs.Places.{Completes, IsSearchBox, IsSearchPlace, first_of};
 
-use crate::answers::{Answers, pick};
+use crate::answer::{Answer, Reply, legal_answer};
+use crate::answers::Answers;
 use crate::choices::Choices;
 use crate::leaf::outcome_at_end;
+use crate::legality::legality;
 use crate::outcome::Outcome;
 use qm_cover::{is_for_all, range_in, single};
 use qm_game::{Bx, Game, Var};
 use qm_io::Memory;
+use qm_legal::Legality;
 use std::alloc::Global;
 
-/// The outcome where these variables are still to be set. The box stays as it was.
+/// The outcome where these variables are still to be set, and these values complete those of the universal variables
+/// that are set. The box stays as it was.
 #[cycle(search)]
 pub fn best(
     alloc: Global,
@@ -22,8 +27,9 @@ pub fn best(
     rest: &[Var],
     depth: usize,
     bx: &mut Bx,
+    completion: &[i64],
 ) -> Result<Outcome, Memory>
-    requires { IsSearchPlace game.now rest.now depth bx.old }
+    requires { IsSearchPlace game.now rest.now depth bx.old completion.now }
     ensures outcome { IfOk result (IsOutcome game.now rest.now depth bx.old) }
     ensures same { bx.new ≡ bx.old }
 {
@@ -31,9 +37,9 @@ pub fn best(
         None => outcome_at_end(alloc, game, bx),
         Some((var, later)) => {
             if is_for_all(var) {
-                worst_answer(alloc, game, var, later, depth, bx)
+                worst_answer(alloc, game, var, later, depth, bx, completion)
             } else {
-                best_choice(alloc, game, var, later, depth, bx)
+                best_choice(alloc, game, var, later, depth, bx, completion)
             }
         }
     }
@@ -48,16 +54,18 @@ fn visit(
     later: &[Var],
     depth: usize,
     bx: &mut Bx,
+    completion: &[i64],
     value: i64,
 ) -> Result<Outcome, Memory>
-    requires place { IsSearchPlace game.now (var.now ∷ later.now) depth bx.old }
+    requires here { IsSearchBox game.now (var.now ∷ later.now) depth bx.old }
     requires within { IsWithin var.now value }
+    requires completes { Completes game.now (depth + 1) (slice_set bx.old depth (single value)) completion.now }
     ensures outcome { IfOk result (IsOutcome game.now later.now (depth + 1) (slice_set bx.old depth (single value))) }
     ensures same { bx.new ≡ bx.old }
 {
     let before = range_in(bx.as_slice(), depth);
     bx.set(depth, single(value));
-    let outcome = best(alloc, game, later, depth + 1, bx);
+    let outcome = best(alloc, game, later, depth + 1, bx, completion);
     bx.set(depth, before);
     outcome
 }
@@ -71,21 +79,47 @@ fn best_choice(
     later: &[Var],
     depth: usize,
     bx: &mut Bx,
+    completion: &[i64],
 ) -> Result<Outcome, Memory>
-    requires place { IsSearchPlace game.now (var.now ∷ later.now) depth bx.old }
+    requires place { IsSearchPlace game.now (var.now ∷ later.now) depth bx.old completion.now }
     requires player { var.now.player ≡ Exists }
     ensures outcome { IfOk result (IsOutcome game.now (var.now ∷ later.now) depth bx.old) }
     ensures same { bx.new ≡ bx.old }
 {
-    let mut choice = var.low;
-    let first = visit(alloc, game, var, later, depth, bx, choice)?;
-    let mut choices = Choices::new(alloc).with(choice, first)?;
-    while choice < var.high {
-        choice += 1;
-        let next = visit(alloc, game, var, later, depth, bx, choice)?;
+    let mut choices = Choices::new(alloc);
+    for choice in var.low..=var.high {
+        let next = visit(alloc, game, var, later, depth, bx, completion, choice)?;
         choices = choices.with(choice, next)?;
     }
     choices.outcome(alloc)
+}
+
+/// What one value of the universal player's comes to.
+#[cycle(search)]
+fn answer_to(
+    alloc: Global,
+    game: &Game,
+    var: &Var,
+    later: &[Var],
+    depth: usize,
+    bx: &mut Bx,
+    completion: &[i64],
+    value: i64,
+) -> Result<Answer, Memory>
+    requires place { IsSearchPlace game.now (var.now ∷ later.now) depth bx.old completion.now }
+    requires player { var.now.player ≡ Universal }
+    requires within { IsWithin var.now value }
+    ensures answer { IfOk result (IsAnswer game.now var.now later.now depth bx.old (first_of completion.now) value) }
+    ensures same { bx.new ≡ bx.old }
+{
+    match legality(alloc, game, var, later, depth, bx, completion, value)? {
+        Legality::Illegal(tree) => Ok(Answer::Kept(Reply::Illegal(tree))),
+        Legality::Completion(values) => {
+            let with_it = values.as_slice();
+            let outcome = visit(alloc, game, var, later, depth, bx, with_it, value)?;
+            legal_answer(alloc, value, values, outcome)
+        }
+    }
 }
 
 /// The worst that the universal player can do; where it can keep the rows from being met, it does so at once.
@@ -97,31 +131,19 @@ fn worst_answer(
     later: &[Var],
     depth: usize,
     bx: &mut Bx,
+    completion: &[i64],
 ) -> Result<Outcome, Memory>
-    requires place { IsSearchPlace game.now (var.now ∷ later.now) depth bx.old }
+    requires place { IsSearchPlace game.now (var.now ∷ later.now) depth bx.old completion.now }
     requires player { var.now.player ≡ Universal }
     ensures outcome { IfOk result (IsOutcome game.now (var.now ∷ later.now) depth bx.old) }
     ensures same { bx.new ≡ bx.old }
 {
-    let mut at = var.low;
-    let mut answers = match visit(alloc, game, var, later, depth, bx, at)? {
-        Outcome::Lost(refute) => return Ok(Outcome::Lost(pick(alloc, later, at, refute)?)),
-        Outcome::Reached {
-            value,
-            policy,
-            refute,
-        } => Answers::first(alloc, at, value, policy, refute)?,
-    };
-    while at < var.high {
-        at += 1;
-        match visit(alloc, game, var, later, depth, bx, at)? {
-            Outcome::Lost(refute) => return Ok(Outcome::Lost(pick(alloc, later, at, refute)?)),
-            Outcome::Reached {
-                value,
-                policy,
-                refute,
-            } => answers = answers.with(at, value, policy, refute)?,
+    let mut answers = Answers::new(alloc);
+    for value in var.low..=var.high {
+        match answer_to(alloc, game, var, later, depth, bx, completion, value)? {
+            Answer::Lost(refute) => return Ok(Outcome::Lost(refute)),
+            Answer::Kept(reply) => answers = answers.with(value, reply)?,
         }
     }
-    answers.outcome(alloc, later)
+    Ok(answers.outcome())
 }

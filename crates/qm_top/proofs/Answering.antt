@@ -1,5 +1,6 @@
 -- Which answers there are.
-use Rattle.std.proofs.Common.{◌≡◌, ◌⊎◌, ◌<◌, ◌-◌, ◌^◌, ◌≤◌, ℕ, ℤ, pos, List, ◌++◌, Option, Some, None, Result, Ok, Err, IfOk, append-nil, inl, inr, arith, length, length-append, ap, subst, ◌∙◌, unsigned_abs}
+use Rattle.std.proofs.Common.{◌≡◌, ◌⊎◌, ◌<◌, ◌-◌, ◌^◌, ◌≤◌, ℕ, ℤ, pos, List, ◌++◌, Option, Some, None, Result, Ok, Err, IfOk, append-nil, inl, inr, arith, length, length-append, ap, subst, sym, ◌∙◌, unsigned_abs}
+use Rattle.std.specs.Prelude.{codes}
 use Rattle.std.specs.Io.KnownBytes.{Consumes, IsAtEnd}
 use Rattle.qm_model.specs.declared.game.Problem.{Problem}
 use Rattle.qm_model.specs.Sound.{IsSound}
@@ -7,11 +8,28 @@ use Rattle.qm_certfile.specs.declared.certificate.Certificate.{Certificate}
 use Rattle.qm_certfile.specs.CertificateLines.{certificate_text}
 use Rattle.qm_certfile.specs.Passes.{Passes}
 use Rattle.qm_certfile.proofs.ToldEndings.{answered, told_ending}
-use Rattle.qm_small.specs.Small.{IsSmallText}
+use Rattle.qm_lex.specs.declared.token.Token.{Token}
+use Rattle.qm_lex.specs.Texts.{AreTokens}
+use Rattle.qm_parse.specs.declared.ast.Ast.{Ast}
+use Rattle.qm_parse.specs.Parsing.{IsParsed}
+use Rattle.qm_normal.specs.declared.fault.NormalFault.{NormalFault}
+use Rattle.qm_normal.specs.declared.fault.NormalFault.TheVariants as normal
+use Rattle.qm_normal.specs.Answers.{Gives}
+use Rattle.qm_normal.specs.Normal.{normal_form}
+use Rattle.qm_normal.specs.Stated.{States}
+use Rattle.qm_normal.proofs.StatedOnce.{one_problem}
+use Rattle.qm_parse.proofs.OneSymbols.{OneDecimal}
+use Rattle.qm_top.specs.Built.{IsBuilt}
 use Rattle.qm_top.specs.declared.command.Command.{Command}
 use Rattle.qm_top.specs.declared.command.Command.TheVariants.{Solve}
 use Rattle.qm_top.specs.Words.{Asks}
-use Rattle.qm_top.specs.Answers.{Claims, IsAnswer, Reading, Solves, SolvesText, misused, solved, whole_text, longer, failed, no_room, claimed, unbuilt, out_of_memory}
+use Rattle.qm_top.specs.Lines.{line}
+use Rattle.qm_top.specs.Answers.{Claims, IsAnswer, Reading, Solves, SolvesProblem, SolvesText, misused, solved, whole_text, longer, failed, no_room, claimed, unbuilt, stated, refused, out_of_memory}
+use Rattle.qm_top.specs.declared.report.Report.{Report}
+use Rattle.qm_top.specs.FaultLines.{TellsNormal}
+use Rattle.qm_top.specs.Refusals.{Refuses, beyond}
+use Rattle.qm_top.specs.Report.{status_of, text_of}
+use Rattle.qm_top.proofs.Refusals.{AreSame, not_refused, one_refusal}
 
 -- a fact of the value in an Ok leads to another
 pub IfOk-map : {T E : Type 0} (P Q : T → Type 0) (r : Result T E) → ((x : T) → P x → Q x) → IfOk r P → IfOk r Q
@@ -44,25 +62,87 @@ no_more (Some xs) (Some ys) bytes told is came =
     let same : told ≡ bytes ++ ys = cc in
     omega (arith, ap length same, length-append bytes ys)
 
-text_answered : (bytes : List ℕ) (status : ℕ) (text : List ℕ) (P : Problem) → IsSmallText bytes P → SolvesText bytes status text → (status ≡ 0) ⊎ (status ≡ 10)
-text_answered bytes status text P small (claimed Q spelled claims is) = inl is
-text_answered bytes status text P small (unbuilt none is line) = absurd (none P small)
-text_answered bytes status text P small (out_of_memory is line) = inr is
+-- what was told and came to its end is answered as a whole, or memory ran out
+text_told : (read : Reading) (status : ℕ) (text bytes : List ℕ) → read.before ≡ Some bytes → length bytes ≤ 4194304 → read.faults_after ≡ read.faults_before → read.faults_before < 2 ^ 64 - 1
+    → Solves read status text → SolvesText bytes status text
+text_told read status text bytes told short same few (whole_text came consumed end fits answer) =
+    subst (λ bs. SolvesText bs status text) (sym (all_read read.before read.after came bytes told consumed end)) answer
+text_told read status text bytes told short same few (longer came consumed long is line) =
+    absurd (omega (arith, no_more read.before read.after came bytes told consumed, short))
+text_told read status text bytes told short same few (failed some rose is line) = absurd (omega arith)
+text_told read status text bytes told short same few (no_room some is line) = out_of_memory is line
 
-solve_answered : (read : Reading) (status : ℕ) (text bytes : List ℕ) (P : Problem) → read.before ≡ Some bytes → IsSmallText bytes P → read.faults_after ≡ read.faults_before → read.faults_before < 2 ^ 64 - 1
-    → Solves read status text → (status ≡ 0) ⊎ (status ≡ 10)
-solve_answered read status text bytes P told small same few (whole_text came consumed end short answer) =
-    text_answered came status text P (subst (λ bs. IsSmallText bs P) (all_read read.before read.after came bytes told consumed end) small) answer
-solve_answered read status text bytes P told small same few (longer came consumed long is line) =
-    absurd (omega (arith, no_more read.before read.after came bytes told consumed, small.short))
-solve_answered read status text bytes P told small same few (failed some rose is line) = absurd (omega arith)
-solve_answered read status text bytes P told small same few (no_room some is line) = inr is
+-- bytes beyond the limit are told to be, or memory ran out
+length_told : (read : Reading) (status : ℕ) (text bytes : List ℕ) → read.before ≡ Some bytes → 4194304 < length bytes → read.faults_after ≡ read.faults_before → read.faults_before < 2 ^ 64 - 1
+    → Solves read status text → ((status ≡ 6) × (text ≡ line (codes "limit problem"))) ⊎ (status ≡ 10)
+length_told read status text bytes told long same few (whole_text came consumed end fits answer) =
+    absurd (omega (arith, ap length (all_read read.before read.after came bytes told consumed end), long, fits))
+length_told read status text bytes told long same few (longer came consumed more is line) = inl (is, line)
+length_told read status text bytes told long same few (failed some rose is line) = absurd (omega arith)
+length_told read status text bytes told long same few (no_room some is line) = inr is
 
-pub small_text_answered : (words : List (List ℕ)) (read : Reading) (status : ℕ) (text : List ℕ) (bytes : List ℕ) (P : Problem)
-    → Asks Solve words → read.before ≡ Some bytes → IsSmallText bytes P → read.faults_after ≡ read.faults_before → read.faults_before < 2 ^ 64 - 1
-    → IsAnswer words read status text → (status ≡ 0) ⊎ (status ≡ 10)
-small_text_answered words read status text bytes P asks told small same few (misused none unread is line) = absurd (none Solve asks)
-small_text_answered words read status text bytes P asks told small same few (solved also answer) = solve_answered read status text bytes P told small same few answer
+pub told_text_answered : (words : List (List ℕ)) (read : Reading) (status : ℕ) (text bytes : List ℕ)
+    → Asks Solve words → read.before ≡ Some bytes → length bytes ≤ 4194304 → read.faults_after ≡ read.faults_before → read.faults_before < 2 ^ 64 - 1
+    → IsAnswer words read status text → SolvesText bytes status text
+told_text_answered words read status text bytes asks told short same few (misused none unread is line) = absurd (none Solve asks)
+told_text_answered words read status text bytes asks told short same few (solved also answer) = text_told read status text bytes told short same few answer
+
+pub long_text_answered : (words : List (List ℕ)) (read : Reading) (status : ℕ) (text bytes : List ℕ)
+    → Asks Solve words → read.before ≡ Some bytes → 4194304 < length bytes → read.faults_after ≡ read.faults_before → read.faults_before < 2 ^ 64 - 1
+    → IsAnswer words read status text → ((status ≡ 6) × (text ≡ line (codes "limit problem"))) ⊎ (status ≡ 10)
+long_text_answered words read status text bytes asks told long same few (misused none unread is line) = absurd (none Solve asks)
+long_text_answered words read status text bytes asks told long same few (solved also answer) = length_told read status text bytes told long same few answer
+
+-- how a problem is solved, where it is one that can be
+built_answered : (P : Problem) (status : ℕ) (text : List ℕ) → IsBuilt P → SolvesProblem P status text → status ≡ 0
+built_answered P status text can (claimed is claims zero) = zero
+built_answered P status text can (unbuilt cannot is line) = absurd (cannot can)
+
+unbuilt_answered : (P : Problem) (status : ℕ) (text : List ℕ) → ¬ IsBuilt P → SolvesProblem P status text → status ≡ 11
+unbuilt_answered P status text cannot (claimed can claims zero) = absurd (cannot can)
+unbuilt_answered P status text cannot (unbuilt so is line) = is
+
+-- the problem that is answered is the one that the bytes state
+stated_answered : OneDecimal → (bytes : List ℕ) (P : Problem) (status : ℕ) (text : List ℕ) → States bytes P → SolvesText bytes status text → SolvesProblem P status text ⊎ (status ≡ 10)
+stated_answered law bytes P status text states (stated Q also answer) =
+    inl (subst (λ R. SolvesProblem R status text) (one_problem law bytes Q P also states) answer)
+stated_answered law bytes P status text states (refused refusal) = absurd (not_refused law bytes P status text states refusal)
+stated_answered law bytes P status text states (out_of_memory is line) = inr is
+
+pub built_text_answered : OneDecimal → (bytes : List ℕ) (P : Problem) (status : ℕ) (text : List ℕ) → States bytes P → IsBuilt P → SolvesText bytes status text → (status ≡ 0) ⊎ (status ≡ 10)
+built_text_answered law bytes P status text states can answer =
+    elim (stated_answered law bytes P status text states answer) [ inl solves ↦ inl (built_answered P status text can solves) | inr is ↦ inr is ]
+
+pub unbuilt_text_answered : OneDecimal → (bytes : List ℕ) (P : Problem) (status : ℕ) (text : List ℕ) → States bytes P → ¬ IsBuilt P → SolvesText bytes status text → (status ≡ 11) ⊎ (status ≡ 10)
+unbuilt_text_answered law bytes P status text states cannot answer =
+    elim (stated_answered law bytes P status text states answer) [ inl solves ↦ inl (unbuilt_answered P status text cannot solves) | inr is ↦ inr is ]
+
+pub refused_text_answered : OneDecimal → (bytes : List ℕ) (status other : ℕ) (text another : List ℕ) → Refuses bytes status text → SolvesText bytes other another → AreSame other status another text ⊎ (other ≡ 10)
+refused_text_answered law bytes status other text another refusal (stated P states answer) = absurd (not_refused law bytes P status text states refusal)
+refused_text_answered law bytes status other text another refusal (refused also) = inl (one_refusal law bytes other status another text also refusal)
+refused_text_answered law bytes status other text another refusal (out_of_memory is line) = inr is
+
+-- a fault of scope or of a limit that is told isn't want of memory
+told_form : (ast : Ast) (fault : NormalFault) (status : ℕ) (text : List ℕ) → Gives (Err fault) (normal_form ast) → TellsNormal fault status text → normal_form ast ≡ Err fault
+told_form ast (normal.ContinuousUniversal name at) status text given tells = given
+told_form ast (normal.ContinuousEarly name at) status text given tells = given
+told_form ast (normal.ExistsInUncertainty name at) status text given tells = given
+told_form ast (normal.Many counted n) status text given tells = given
+told_form ast (normal.Domain name) status text given tells = given
+told_form ast (normal.Wide which) status text given tells = given
+told_form ast normal.Memory status text given tells = absurd tells
+
+pub refused_beyond : (bytes : List ℕ) (tokens : List Token) (ast : Ast) (fault : NormalFault) → AreTokens bytes tokens → IsParsed bytes tokens (Ok ast) → Gives (Err fault) (normal_form ast)
+    → (status : ℕ) (text : List ℕ) → TellsNormal fault status text → SolvesText bytes status text
+refused_beyond bytes tokens ast fault cut parsed given status text tells = refused (beyond tokens ast fault cut parsed (told_form ast fault status text given tells) tells)
+
+pub stated_by : (bytes : List ℕ) (tokens : List Token) (ast : Ast) (P : Problem) → AreTokens bytes tokens → IsParsed bytes tokens (Ok ast) → normal_form ast ≡ Ok P
+    → (status : ℕ) (text : List ℕ) → SolvesProblem P status text → SolvesText bytes status text
+stated_by bytes tokens ast P cut parsed is status text solves = stated P (record { tokens = tokens; cut = cut; ast = ast; parsed = parsed; normal = is }) solves
+
+-- a report, by its status and its text
+abbrev pub Reports : (ℕ → List ℕ → Type 0) → Report → Type 0
+Reports P report = P (status_of report) (text_of report)
 
 -- there is one command
 pub asks_solve : (command : Command) (words : List (List ℕ)) → Asks command words → Asks Solve words

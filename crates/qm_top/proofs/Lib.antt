@@ -1,2 +1,3 @@
 pub mod TwoWords
+pub mod Refusals
 pub mod Answering

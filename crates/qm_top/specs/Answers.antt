@@ -7,7 +7,7 @@ use Rattle.qm_io.specs.Bytes.{AppendsFront, TookSome}
 use Rattle.qm_model.specs.declared.game.Problem.{Problem}
 use Rattle.qm_model.specs.Endings.{HasEnding}
 use Rattle.qm_model.specs.Plays.{IsPlay}
-use Rattle.qm_small.specs.Small.{IsSmallText}
+use Rattle.qm_normal.specs.Stated.{States}
 use Rattle.qm_certfile.specs.declared.certificate.Certificate.{Certificate}
 use Rattle.qm_certfile.specs.CertificateLines.{certificate_text}
 use Rattle.qm_certfile.specs.Passes.{AnswersPlay, Passes, ending_of}
@@ -15,6 +15,8 @@ use Rattle.qm_top.specs.declared.command.Command.{Command}
 use Rattle.qm_top.specs.declared.command.Command.TheVariants.{Solve}
 use Rattle.qm_top.specs.Words.{Asks}
 use Rattle.qm_top.specs.Lines.{line}
+use Rattle.qm_top.specs.Refusals.{Refuses}
+use Rattle.qm_top.specs.Built.{IsBuilt}
 
 -- what became of a source: the bytes that it had left and has left, where it tells them, and its faults
 pub record Reading : Type 0 where
@@ -40,24 +42,29 @@ pub record Claims (P : Problem) (text : List ℕ) : Type 0 where
   pub ending : HasEnding P (ending_of certificate)
   pub answers : (us : List ℤ) → IsPlay P us → AnswersPlay P us certificate
 
+-- what `solve` answers about a problem
+pub data SolvesProblem (P : Problem) (status : ℕ) (text : List ℕ) : Type 0 where
+  claimed : IsBuilt P → Claims P text → status ≡ 0 → SolvesProblem P status text
+  -- it is none that can be solved yet
+  unbuilt : ¬ IsBuilt P → status ≡ 11 → text ≡ line (codes "unbuilt") → SolvesProblem P status text
+
 -- what `solve` answers about the whole bytes of a problem
 pub data SolvesText (bytes : List ℕ) (status : ℕ) (text : List ℕ) : Type 0 where
-  -- the certificate of the one problem that the bytes spell
-  claimed : (P : Problem) → IsSmallText bytes P → Claims P text → status ≡ 0 → SolvesText bytes status text
-  -- the bytes are none that can be solved yet
-  unbuilt : ((P : Problem) → ¬ IsSmallText bytes P) → status ≡ 11 → text ≡ line (codes "unbuilt") → SolvesText bytes status text
+  stated : (P : Problem) → States bytes P → SolvesProblem P status text → SolvesText bytes status text
+  -- they state no problem
+  refused : Refuses bytes status text → SolvesText bytes status text
   out_of_memory : status ≡ 10 → text ≡ line (codes "memory") → SolvesText bytes status text
 
--- what `solve` answers, by what was read of the problem: at most 65537 bytes
+-- what `solve` answers, by what was read of the problem: at most 4,194,305 bytes
 pub data Solves (read : Reading) (status : ℕ) (text : List ℕ) : Type 0 where
   -- the problem was read to its end
-  whole_text : (bytes : List ℕ) → Consumes read.before read.after bytes → IsAtEnd read.after → length bytes ≤ 65536 → SolvesText bytes status text → Solves read status text
-  -- the problem is longer than any that can be solved yet
-  longer : (bytes : List ℕ) → Consumes read.before read.after bytes → length bytes ≡ 65537 → status ≡ 11 → text ≡ line (codes "unbuilt") → Solves read status text
+  whole_text : (bytes : List ℕ) → Consumes read.before read.after bytes → IsAtEnd read.after → length bytes ≤ 4194304 → SolvesText bytes status text → Solves read status text
+  -- the problem is longer than the limit
+  longer : (bytes : List ℕ) → Consumes read.before read.after bytes → length bytes ≡ 4194305 → status ≡ 6 → text ≡ line (codes "limit problem") → Solves read status text
   -- the source failed
-  failed : TookSome read.before read.after 65537 → Rose read.faults_before read.faults_after → status ≡ 3 → text ≡ line (codes "read problem") → Solves read status text
+  failed : TookSome read.before read.after 4194305 → Rose read.faults_before read.faults_after → status ≡ 3 → text ≡ line (codes "read problem") → Solves read status text
   -- there was no memory for the bytes
-  no_room : TookSome read.before read.after 65537 → status ≡ 10 → text ≡ line (codes "memory") → Solves read status text
+  no_room : TookSome read.before read.after 4194305 → status ≡ 10 → text ≡ line (codes "memory") → Solves read status text
 
 -- The answers, by command. Where the words are none of the forms, nothing is read and the usage is told.
 pub data IsAnswer (words : List (List ℕ)) (problem : Reading) (status : ℕ) (text : List ℕ) : Type 0 where

@@ -1,4 +1,7 @@
 pub mod Words
 pub mod Lines
+pub mod FaultLines
+pub mod Refusals
 pub mod Report
+pub mod Built
 pub mod Answers

@@ -1,12 +1,15 @@
 -- The status and the text of a report.
 use Rattle.std.specs.Prelude.{ℕ, List, codes}
 use Rattle.qm_top.specs.declared.report.Report.{Report}
-use Rattle.qm_top.specs.declared.report.Report.TheVariants.{Usage, ReadProblem, Unbuilt, Memory, Certificate}
+use Rattle.qm_top.specs.declared.report.Report.TheVariants.{Usage, ReadProblem, Text, Long, Limit, Unbuilt, Memory, Certificate}
 use Rattle.qm_top.specs.Lines.{line}
 
 abbrev pub status_of : Report → ℕ
 status_of Usage = 2
 status_of ReadProblem = 3
+status_of (Text why) = 5
+status_of Long = 6
+status_of (Limit why) = 6
 status_of Unbuilt = 11
 status_of Memory = 10
 status_of (Certificate text) = 0
@@ -14,6 +17,9 @@ status_of (Certificate text) = 0
 abbrev pub text_of : Report → List ℕ
 text_of Usage = line (codes "usage: qyas solve FILE")
 text_of ReadProblem = line (codes "read problem")
+text_of (Text why) = why
+text_of Long = line (codes "limit problem")
+text_of (Limit why) = why
 text_of Unbuilt = line (codes "unbuilt")
 text_of Memory = line (codes "memory")
 text_of (Certificate text) = text

@@ -10,6 +10,12 @@ pub enum Report {
     Usage,
     /// The problem's source failed.
     ReadProblem,
+    /// The problem's text is refused, or the problem is out of scope: the line that says why.
+    Text(List<u8>),
+    /// The problem has too many bytes.
+    Long,
+    /// The problem is beyond another limit: the line that says which.
+    Limit(List<u8>),
     /// The problem is of a form that can't be solved yet.
     Unbuilt,
     /// Memory ran out.
@@ -26,6 +32,9 @@ impl Report {
         match self {
             Report::Usage => 2,
             Report::ReadProblem => 3,
+            Report::Text(_) => 5,
+            Report::Long => 6,
+            Report::Limit(_) => 6,
             Report::Unbuilt => 11,
             Report::Memory => 10,
             Report::Certificate(_) => 0,
@@ -39,6 +48,9 @@ impl Report {
         match self {
             Report::Usage => b"usage: qyas solve FILE\n",
             Report::ReadProblem => b"read problem\n",
+            Report::Text(why) => why.as_slice(),
+            Report::Long => b"limit problem\n",
+            Report::Limit(why) => why.as_slice(),
             Report::Unbuilt => b"unbuilt\n",
             Report::Memory => b"memory\n",
             Report::Certificate(text) => text.as_slice(),

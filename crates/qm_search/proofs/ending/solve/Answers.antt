@@ -1,31 +1,30 @@
-use Rattle.qm_model.specs.Plays.{IsPlay}
-use Rattle.qm_certfile.specs.Passes.{Passes}
+use Rattle.std.proofs.Common.{arith, subst}
+use Rattle.qm_model.specs.Boxes.{whole_box_of}
+use Rattle.qm_certfile.specs.declared.certificate.Certificate.TheVariants.{Empty}
 use Rattle.qm_certfile.proofs.ToldEndings.{told_ending}
-use Rattle.qm_search.proofs.LegalPlay.{fitting_play}
-use Rattle.qm_search.proofs.SearchPlaces.{first_place, whole_vars_all}
+use Rattle.qm_legal.specs.Queries.{IsAnswer}
+use Rattle.qm_search.proofs.SearchPlaces.{first_box, query, whole_vars_all}
 use Rattle.qm_search.proofs.ending.solve.Goals as goal
 
-pub low_ends-requires : goal.low_ends-requires
-low_ends-requires c = rw (c.as_slice-vars.ensures, c.problem.ensures.value) c.requires.none_empty
-
-pub best-requires : goal.best-requires
-best-requires c =
-    let sound = rw c.problem.ensures.value at c.problem.ensures.sound in
-    rw (c.as_slice-vars.ensures, c.problem.ensures.value, c.in_ok-bx.ensures.bounds) (first_place c.args.game.now sound c.requires)
-
-pub returns-clause-passes : goal.returns-clause-passes
-returns-clause-passes c =
+pub legal-requires : goal.legal-requires
+legal-requires c =
     let P = c.args.game.now in
-    let vars = rw c.problem.ensures.value at c.as_slice-vars.ensures in
-    let outcome = rw (vars, c.in_ok-bx.ensures.bounds) at c.in_ok-outcome.ensures.outcome in
-    let legal = rw vars at c.in_ok-legal.ensures in
-    c.certified.ensures P (rw (whole_vars_all P c.requires) outcome) (fitting_play P c.in_ok-legal.legal c.requires legal)
+    let sound = rw c.problem.ensures.value at c.problem.ensures.sound in
+    rw c.in_ok-bx.ensures.bounds (query P P.vars 0 (whole_box_of P.vars) (first_box P sound c.requires) (omega arith))
+
+pub returns-in-Illegal-clause-ending : goal.returns-in-Illegal-clause-ending
+returns-in-Illegal-clause-ending c =
+    let P = c.args.game.now in
+    let sound = rw c.problem.ensures.value at c.problem.ensures.sound in
+    let illegal = subst (IsAnswer P 0 c.in_ok-bx.bx) c.in-Illegal.is c.in_ok-tree.ensures.answer in
+    let shows = rw c.in_ok-bx.ensures.bounds at illegal.shows in
+    told_ending P (Empty c.in-Illegal.tree) sound (shows.right, shows.in_range)
 
 pub returns-clause-ending : goal.returns-clause-ending
 returns-clause-ending c =
     let P = c.args.game.now in
     let sound = rw c.problem.ensures.value at c.problem.ensures.sound in
     let vars = rw c.problem.ensures.value at c.as_slice-vars.ensures in
-    let outcome = rw (vars, c.in_ok-bx.ensures.bounds) at c.in_ok-outcome.ensures.outcome in
-    let legal = rw vars at c.in_ok-legal.ensures in
-    told_ending P c.certified.result sound (c.certified.ensures P (rw (whole_vars_all P c.requires) outcome) (fitting_play P c.in_ok-legal.legal c.requires legal))
+    let outcome = rw (vars, c.in_ok-bx.ensures.bounds) at c.in_ok-outcome-in-Completion.ensures.outcome in
+    let play = subst (IsAnswer P 0 c.in_ok-bx.bx) c.in-Completion.is c.in_ok-tree.ensures.answer in
+    told_ending P c.certified.result sound (c.certified.ensures P (rw (whole_vars_all P c.requires) outcome) play)

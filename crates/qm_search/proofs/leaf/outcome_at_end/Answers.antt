@@ -10,7 +10,7 @@ pub returns-in-Some : goal.returns-in-Some
 returns-in-Some c =
     let sound = rw c.problem-problem.ensures.value at c.problem-problem.ensures.sound in
     let first = rw c.in-Some.is at c.row_dead.ensures in
-    first_dead_refutes c.args.game.now (length c.args.game.now.vars) c.args.bx.now sound c.requires.bx Any tt c.in-Some.row c.in_ok-closed_by.field-0 c.requires.plain first
+    first_dead_refutes c.args.game.now (length c.args.game.now.vars) c.args.bx.now sound c.requires.bx Any tt c.in-Some.row c.in_ok-closed_by.field-0 first
     c.in_ok-closed_by.ensures
 
 pub returns : goal.returns
@@ -20,7 +20,7 @@ returns c =
     record {
       positive = c.den-positive.ensures.terms.positive;
       secures = leaf_secures c.args.game.now (length c.args.game.now.vars) c.args.bx.now sound c.requires.bx c.objective_bound-bound.result c.objective_bound-bound.ensures
-          (Leaf c.new.result) c.requires.plain c.requires.set first (ap Leaf c.new.ensures);
+          (Leaf c.new.result) c.requires.all_whole c.requires.set first (ap Leaf c.new.ensures);
       refutes = objective_refutes c.args.game.now (length c.args.game.now.vars) c.args.bx.now sound c.requires.bx c.objective_bound-bound.result c.objective_bound-bound.ensures
           (Close c.new-combo.result) (ap Close c.new-combo.ensures);
     }

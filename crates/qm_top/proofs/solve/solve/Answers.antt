@@ -1,5 +1,5 @@
 use Rattle.std.proofs.Common.{refl, subst}
-use Rattle.qm_top.specs.Answers.{SolvesText, whole_text, longer}
+use Rattle.qm_top.specs.Answers.{SolvesText, longer, whole_text}
 use Rattle.qm_top.specs.Report.{status_of, text_of}
 use Rattle.qm_top.proofs.solve.solve.Goals as goal
 
@@ -12,4 +12,4 @@ pub returns-in-Ok-Bytes : goal.returns-in-Ok-Bytes
 returns-in-Ok-Bytes g c =
     let whole = rw c.in-Ok-Bytes.field-0-is at c.in-Ok-Bytes.ensures.whole in
     whole_text c.in-Ok-Bytes.text whole.0 whole.1 whole.2
-    (subst (λ bytes. SolvesText bytes (status_of c.solve_text.result) (text_of c.solve_text.result)) c.as_slice.ensures c.solve_text.ensures)
+    (subst (λ bytes. SolvesText bytes (status_of c.solve_bytes.result) (text_of c.solve_bytes.result)) c.as_slice.ensures c.solve_bytes.ensures)

@@ -1,6 +1,12 @@
-use Rattle.std.proofs.Common.{refl}
-use Rattle.qm_top.specs.Answers.{claimed}
+use Rattle.std.proofs.Common.{List, [], ◌∷◌, ℕ, refl, ap, ◌∙◌}
+use Rattle.std.specs.Prelude.{codes}
+use Rattle.qm_lex.specs.declared.place.Place.{Place}
+use Rattle.qm_top.specs.Answers.{refused}
+use Rattle.qm_top.specs.FaultLines.{text_line}
+use Rattle.qm_top.specs.Refusals.{bad_byte}
 use Rattle.qm_top.proofs.solve.solve_text.Goals as goal
 
-pub returns : goal.returns
-returns c = claimed c.in-Ok-Some.game (rw c.in-Ok-Some.field-0-is at c.in-Ok-Some.ensures.some) c.in-Ok.ensures refl
+pub returns-in_ok-kind_line-in-Err-BadByte : goal.returns-in_ok-kind_line-in-Err-BadByte
+returns-in_ok-kind_line-in-Err-BadByte c =
+    let bad = c.tokens.ensures.bad c.in-Err-BadByte.at cc in
+    refused (bad_byte bad.0 bad.1 refl (c.in_ok-kind_line-in-Err-BadByte.ensures ∙ ap (λ (at : Place). text_line at (codes "byte" ∷ [])) bad.2))

@@ -1,30 +1,22 @@
-use Rattle.std.proofs.Common.{rules, ◌≡◌, ◌∷◌, [], ◌++◌, sym, to_z, of_z}
+use Rattle.std.proofs.Common.{rules, ◌≡◌, ◌∷◌, [], ◌++◌, subst}
 use Rattle.std.proofs.lemmas.Int.{to_z-of_z}
 use mir.Syntax.{w64}
-use Rattle.qm_search.proofs.AnswerLaws.{worse_answer, other_answer}
-use Rattle.qm_search.proofs.BelowTests.{at_most_of_below, at_most_of_not}
+use Rattle.qm_search.specs.Answers.{IsReply}
+use Rattle.qm_search.proofs.AnswerLaws.{illegal_answer, one_answer}
 use Rattle.qm_search.proofs.answers.Answers.with.Goals as goal
 
-pub returns-then-is_less : goal.returns-then-is_less
-returns-then-is_less c = λ P later depth bx low from are reached.
-    let same = to_z-of_z w64 c.args.at c.ranges.at in
-    let kept = c.args.self.value in
-    let value = c.args.value in
-    let pushed : c.push.new.self ≡ c.args.self.parts ++ c.part.result ∷ [] = search rules in
-    let range = rw same at c.part.ensures.range in
-    let test = rw c.if-is_less.true at c.is_less.ensures in
-    let less = at_most_of_below value kept (sym test) in
-    rw same
-    (worse_answer P later depth bx c.args.at value c.args.policy c.args.refute reached c.push.new.self c.part.result range c.part.ensures.below
-    low from c.args.self are pushed less)
+pub returns-in_ok-map_err-in-Illegal : goal.returns-in_ok-map_err-in-Illegal
+returns-in_ok-map_err-in-Illegal c = λ P x later depth bx first low are reply.
+    let pushed : c.push.new.self ≡ c.args.self.parts ++ c.illegal_part.result ∷ [] = search rules in
+    let range = rw (to_z-of_z w64 c.args.at c.ranges.at) at c.illegal_part.ensures.range in
+    let illegal = subst (IsReply P x later depth bx first c.args.at) c.in-Illegal.is reply in
+    illegal_answer P x later depth bx first low c.args.at c.args.self are c.push.new.self c.illegal_part.result pushed range
+    c.in-Illegal.tree c.illegal_part.ensures.below illegal.0 illegal.1
 
-pub returns-else-is_less : goal.returns-else-is_less
-returns-else-is_less c = λ P later depth bx low from are reached.
-    let same = to_z-of_z w64 c.args.at c.ranges.at in
-    let worst : to_z w64 (of_z w64 c.args.self.worst) ≡ c.args.self.worst = search rules in
-    let pushed : c.push.new.self ≡ c.args.self.parts ++ c.part.result ∷ [] = search rules in
-    let range = rw same at c.part.ensures.range in
-    let test = rw c.if-is_less.false at c.is_less.ensures in
-    rw worst
-    (other_answer P later depth bx c.args.at c.args.value c.args.policy c.args.refute reached c.push.new.self c.part.result range
-    c.part.ensures.below low from c.args.self are pushed (at_most_of_not c.args.self.value c.args.value (sym test)))
+pub returns-in_ok-map_err-in-Reached : goal.returns-in_ok-map_err-in-Reached
+returns-in_ok-map_err-in-Reached c = λ P x later depth bx first low are reply.
+    let pushed : c.push-in-Reached.new.self ≡ c.args.self.parts ++ c.part.result ∷ [] = search rules in
+    let range = rw (to_z-of_z w64 c.args.at c.ranges.at) at c.part.ensures.range in
+    let answered = subst (IsReply P x later depth bx first c.args.at) c.in-Reached.is reply in
+    one_answer P x later depth bx first low c.args.at c.args.self are c.push-in-Reached.new.self c.part.result pushed range
+    c.in-Reached.value c.in-Reached.policy c.in-Reached.refute c.part.ensures.below answered c.worse.result c.worse.ensures
