@@ -1,11 +1,7 @@
--- What ordered terms give a variable, and whole numbers as fractions of the program.
-use Rattle.std.proofs.Common.{◌≡◌, ◌∙◌, sym, ℕ, suc, ◌<◌, ◌^◌, List, ◌∷◌, arith, ap, unsigned_abs, ℤ, pos, ◌+ℤ◌}
-use Rattle.std.specs.Prelude.{Option, Some, None, SomeIff}
+-- What ordered terms give a variable.
+use Rattle.std.proofs.Common.{◌≡◌, sym, ℕ, suc, List, ◌∷◌, arith, ℤ, pos, ◌+ℤ◌}
 use Rattle.std.proofs.lemmas.Int.{ints}
 use Rattle.std.proofs.lemmas.Bool.Decides.{nat_tests}
-use Rattle.qm_math.specs.Fraction.{Fraction, whole}
-use Rattle.qm_frac.specs.Lowest.{IsInRange, lowest_terms}
-use Rattle.qm_frac.proofs.Terms.{whole_is, lowest_again, in_range_small}
 use Rattle.qm_model.specs.declared.row.Term.{Term}
 use Rattle.qm_model.specs.Linear.{IsOrderedFrom, coefficient}
 use Rattle.qm_model.proofs.Forms.{coefficient-later}
@@ -28,8 +24,3 @@ coefficient_none t ts var order other =
 
 pub coefficient_absent : (terms : List Term) (t : Term) (ts : List Term) (var : ℕ) → terms ≡ t ∷ ts → IsOrderedFrom var terms → (t.var ≡ var → ⊥) → pos 0 ≡ coefficient terms var
 coefficient_absent terms t ts var is order other = rw is (coefficient_none t ts var (rw is at order) other)
-
--- a whole number over 1
-pub whole_from : (n : ℤ) → unsigned_abs n < 2 ^ 127 → (r : Option Fraction) → SomeIff r (IsInRange (lowest_terms n (pos 1))) (lowest_terms n (pos 1)) → r ≡ Some (whole n)
-whole_from n h None is = absurd (is (in_range_small n 1 h (omega arith)))
-whole_from n h (Some x) is = ap (λ (y : Fraction). Some y) (is.1 ∙ lowest_again (whole n) (whole_is n h))

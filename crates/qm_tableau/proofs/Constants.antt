@@ -11,6 +11,7 @@ use Rattle.qm_math.proofs.FractionRing.{same_by_ring}
 use Rattle.qm_math.proofs.FractionLaws.{product_of_den, same_refl, same_sym, same_trans, sum_of-same, sum_of-zero, sum_of_den, whole_den, product_of-same}
 use Rattle.qm_math.proofs.Rows.{sum_of_products_den}
 use Rattle.qm_model.specs.declared.range.Range.{Range}
+use Rattle.qm_model.specs.declared.row.Row.{Row}
 use Rattle.qm_model.specs.declared.game.Problem.{Problem}
 use Rattle.qm_tableau.specs.Tables.{Table, entry_of, row_at}
 use Rattle.qm_tableau.specs.Quantities.{Quantity, coefficient_in, quantities}
@@ -73,20 +74,21 @@ constant_left (t ∷ ts) vs d h =
     same_trans (sum_of t (sum_of_products ts vs)) (sum_of t z) t (sum_of_den t z td (whole_den (pos 0)))
     (sum_of-same t (sum_of_products ts vs) t z (same_refl t) (products_zero ts vs (All-tail HasPositiveDen t ts d) h)) (sum_of-zero t)
 
-nothing : List ℕ → List Fraction
+-- 0 for each column
+pub nothing : List ℕ → List Fraction
 nothing cols = map (λ (c : ℕ). whole (pos 0)) cols
 
-nothing_long : (cols : List ℕ) → length (nothing cols) ≡ length cols
+pub nothing_long : (cols : List ℕ) → length (nothing cols) ≡ length cols
 unfolding nothing
 nothing_long [] = refl
 nothing_long (c ∷ cols) = let e = nothing_long cols in omega (arith, e)
 
-nothing_den : (cols : List ℕ) → All HasPositiveDen (nothing cols)
+pub nothing_den : (cols : List ℕ) → All HasPositiveDen (nothing cols)
 unfolding nothing
 nothing_den [] = All-nil HasPositiveDen
 nothing_den (c ∷ cols) = All-cons HasPositiveDen (whole (pos 0)) (map (λ (c : ℕ). whole (pos 0)) cols) (whole_den (pos 0)) (nothing_den cols)
 
-nothing_zero : (cols : List ℕ) → AreZero (nothing cols)
+pub nothing_zero : (cols : List ℕ) → AreZero (nothing cols)
 unfolding nothing AreZero
 nothing_zero [] i = refl
 nothing_zero (c ∷ cols) zero = refl
@@ -120,15 +122,15 @@ joined (t ∷ ts) (u ∷ us) (v ∷ vs) xs ys h k zx zy xd yd vd td ud =
           (All-tail (λ (r : List Fraction). All HasPositiveDen r) u us ud),
     )
 
-pub same_constants : (P : Problem) (bx : List Range) (t u : Table) → IsGood P bx t → IsGood P bx u → All (Contains t.columns) u.columns
+pub same_constants : (P : Problem) (cuts : List Row) (bx : List Range) (t u : Table) → IsGood P cuts bx t → IsGood P cuts bx u → All (Contains t.columns) u.columns
     → AllZip IsSame (column_at t.rows 0) (column_at u.rows 0)
-same_constants P bx t u gt gu h =
+same_constants P cuts bx t u gt gu h =
     let xs = nothing t.columns in
     let xd = nothing_den t.columns in
     let at = gt.taken xs (nothing_long t.columns) xd in
     let point = at.0 in
-    let vs = values_at P bx point in
-    let vd = values_den point (quantities P bx) (at.1).positive in
+    let vs = values_at P cuts bx point in
+    let vd = values_den point (quantities P cuts bx) (at.1).positive in
     let zx = nothing_zero t.columns in
     let zero_at : (k : ℕ) → k < length t.columns → IsSame (entry_of vs (get_or t.columns k 0)) (whole (pos 0)) = λ k inside.
     (let r = get_or t.columns k 0 in

@@ -7,6 +7,7 @@ use Rattle.qm_math.specs.Fraction.{Fraction, IsBelow, IsSame, whole}
 use Rattle.qm_math.specs.Lexicographic.{IsLexNegative}
 use Rattle.qm_model.specs.declared.range.Range.{Range}
 use Rattle.qm_model.specs.declared.row.Term.{Term}
+use Rattle.qm_model.specs.declared.row.Row.{Row}
 use Rattle.qm_model.specs.declared.game.Problem.{Problem}
 use Rattle.qm_model.specs.Linear.{coefficient}
 use Rattle.qm_tableau.specs.Quantities.{Quantity, bound_quantities, coefficient_in, quantities, slack_quantity, turned}
@@ -80,13 +81,13 @@ objective_falls (pos (suc n)) rest h =
     inl (rw e (below_nought (neg_ℤ (pos (suc n))) (omega (arith, ints))))
 objective_falls (negsuc n) rest h = inl (below_nought (negsuc n) (omega (arith, ints)))
 
-pub first_falls : (P : Problem) (bx : List Range) (j : ℕ) → j < length bx → IsLexNegative (column_at (first_table P bx).rows (suc j))
+pub first_falls : (P : Problem) (cuts : List Row) (bx : List Range) (j : ℕ) → j < length bx → IsLexNegative (column_at (first_table P cuts bx).rows (suc j))
 unfolding numbers_in
-first_falls P bx j h =
+first_falls P cuts bx j h =
     let highs = raises P.terms 0 bx in
     let inside : j < length highs = (let e = length_raised P.terms 0 bx in omega (arith, h, e)) in
     let high : get_or highs j false ≡ int_lt (pos 0) (coefficient P.terms j) = raises_at P.terms 0 bx j h ∙ ap (λ (n : ℕ). int_lt (pos 0) (coefficient P.terms n)) (let e : 0 + j ≡ j = omega arith in e) in
-    let more = map slack_quantity P.rows ++ map slack_quantity P.urows in
-    let is = column_is highs (corner highs bx) j (quantities P bx) inside ∙ ap (λ (b : Bool). numbers_in b j (quantities P bx)) high in
+    let more = map slack_quantity P.rows ++ (map slack_quantity P.urows ++ map slack_quantity cuts) in
+    let is = column_is highs (corner highs bx) j (quantities P cuts bx) inside ∙ ap (λ (b : Bool). numbers_in b j (quantities P cuts bx)) high in
     subst IsLexNegative (sym is)
     (objective_falls (coefficient P.terms j) (λ b. numbers_in b j (bound_quantities 0 bx ++ more)) (λ e. bounds_fall 0 j bx more (omega arith) (omega (arith, h))))

@@ -11,6 +11,7 @@ use Rattle.qm_math.proofs.FractionRing.{same_by_ring}
 use Rattle.qm_math.proofs.FractionLaws.{difference_of_den, same_refl, same_trans, sum_of-negated, sum_of_den, whole_den}
 use Rattle.qm_math.proofs.SameLists.{all_same_sym}
 use Rattle.qm_model.specs.declared.range.Range.{Range}
+use Rattle.qm_model.specs.declared.row.Row.{Row}
 use Rattle.qm_model.specs.declared.game.Problem.{Problem}
 use Rattle.qm_tableau.specs.Tables.{entry_of, row_at}
 use Rattle.qm_tableau.specs.Quantities.{Quantity, bound_quantities, coefficient_in, objective_quantity, quantities, slack_quantity, turned, whole_value}
@@ -47,17 +48,17 @@ bounds_at V false var (suc j) (s ∷ bx) more d r h =
     ∙ bounds_at V false (suc var) j bx more d r (omega (arith, h)) ∙ ap (λ (n : ℕ). V (bound_quantity false n (get_or bx j r))) at
 
 -- what V gives for a bound's quantity, among what it gives for all
-quantity_at : {X : Type 0} (V : Quantity → X) (P : Problem) (bx : List Range) (b : Bool) (j : ℕ) (d : X) (r : Range) → j < length bx
-    → get_or (map V (quantities P bx)) (place b j) d ≡ V (bound_quantity b j (get_or bx j r))
+quantity_at : {X : Type 0} (V : Quantity → X) (P : Problem) (cuts : List Row) (bx : List Range) (b : Bool) (j : ℕ) (d : X) (r : Range) → j < length bx
+    → get_or (map V (quantities P cuts bx)) (place b j) d ≡ V (bound_quantity b j (get_or bx j r))
 unfolding place
-quantity_at V P bx true j d r h =
-    let more = map slack_quantity P.rows ++ map slack_quantity P.urows in
+quantity_at V P cuts bx true j d r h =
+    let more = map slack_quantity P.rows ++ (map slack_quantity P.urows ++ map slack_quantity cuts) in
     let index : 2 * j + 1 ≡ suc (2 * j) = omega arith in
     let at : 0 + j ≡ j = omega arith in
     ap (λ (n : ℕ). get_or (V (objective_quantity P) ∷ map V (bound_quantities 0 bx ++ more)) n d) index
     ∙ bounds_at V true 0 j bx more d r h ∙ ap (λ (n : ℕ). V (bound_quantity true n (get_or bx j r))) at
-quantity_at V P bx false j d r h =
-    let more = map slack_quantity P.rows ++ map slack_quantity P.urows in
+quantity_at V P cuts bx false j d r h =
+    let more = map slack_quantity P.rows ++ (map slack_quantity P.urows ++ map slack_quantity cuts) in
     let index : 2 * j + 2 ≡ suc (2 * j + 1) = omega arith in
     let at : 0 + j ≡ j = omega arith in
     ap (λ (n : ℕ). get_or (V (objective_quantity P) ∷ map V (bound_quantities 0 bx ++ more)) n d) index
@@ -159,7 +160,7 @@ row_den : (highs : List Bool) (ns : List ℤ) (q : Quantity) → All HasPositive
 row_den highs ns q =
     All-cons HasPositiveDen (whole (whole_value q ns)) (numbers_from (coefficient_in q) 0 highs) (whole_den (whole_value q ns)) (numbers_den (coefficient_in q) 0 highs)
 
-module _ (P : Problem) (bx : List Range) where
+module _ (P : Problem) (cuts : List Row) (bx : List Range) where
   ends : List Bool
   ends = raises P.terms 0 bx
 
@@ -169,27 +170,27 @@ module _ (P : Problem) (bx : List Range) where
 
   -- where the inputs are the distances from the corner
   all_moved : (inputs xs : List Fraction) → length xs ≡ length bx → All HasPositiveDen xs → AllZip IsSame inputs (offsets ends bx xs)
-      → ComeTo (first_table P bx).rows inputs (values_at P bx xs)
+      → ComeTo (first_table P cuts bx).rows inputs (values_at P cuts bx xs)
   unfolding ends
   all_moved inputs xs count d same =
-      come_to ends (corner ends bx) (quantities P bx) inputs xs (λ q.
+      come_to ends (corner ends bx) (quantities P cuts bx) inputs xs (λ q.
       (let row = first_row ends (corner ends bx) q in
       same_trans (affine_value row inputs) (affine_value row (offsets ends bx xs)) (quantity_value xs q)
       (affine_den row (offsets ends bx xs) (row_den ends (corner ends bx) q) (offsets_den ends bx xs d)) (affine_same row inputs (offsets ends bx xs) same)
       (row_moved ends bx xs q many count d)))
 
-  functions : (xs : List Fraction) → IsPoint bx xs → ComeTo (first_table P bx).rows (column_values (first_table P bx).columns (values_at P bx xs)) (values_at P bx xs)
+  functions : (xs : List Fraction) → IsPoint bx xs → ComeTo (first_table P cuts bx).rows (column_values (first_table P cuts bx).columns (values_at P cuts bx xs)) (values_at P cuts bx xs)
   unfolding ends
   functions xs is =
-      let vs = values_at P bx xs in
+      let vs = values_at P cuts bx xs in
       all_moved (column_values (columns_from 0 ends) vs) xs is.count is.positive
       (distances 0 ends bx xs vs many is.count (λ j b g.
       (let at : j ≡ 0 + j = omega arith in
       let value = bound_value b j (get_or bx j no_range) xs (let e = is.count in omega (arith, e, g)) is.positive in
       subst (λ (n : ℕ). IsSame (entry_of vs (place b n)) (offset b (get_or bx j no_range) (entry_of xs j))) at
-      (subst (λ (y : Fraction). IsSame y (offset b (get_or bx j no_range) (entry_of xs j))) (sym (quantity_at (quantity_value xs) P bx b j (whole (pos 0)) no_range g)) value))))
+      (subst (λ (y : Fraction). IsSame y (offset b (get_or bx j no_range) (entry_of xs j))) (sym (quantity_at (quantity_value xs) P cuts bx b j (whole (pos 0)) no_range g)) value))))
 
-  taken : (ys : List Fraction) → length ys ≡ length bx → All HasPositiveDen ys → (xs : List Fraction) × IsPoint bx xs × ComeTo (first_table P bx).rows ys (values_at P bx xs)
+  taken : (ys : List Fraction) → length ys ≡ length bx → All HasPositiveDen ys → (xs : List Fraction) × IsPoint bx xs × ComeTo (first_table P cuts bx).rows ys (values_at P cuts bx xs)
   unfolding ends
   taken ys count d =
       let xs = point_of ends bx ys in
@@ -268,35 +269,35 @@ unit_row highs bx k r hs h =
         let none = apart (get_or highs i false) b k i s (λ e. other (ap suc e)) in
         subst (λ (x : Fraction). IsSame x (whole (pos 0))) (sym (number_at i within ∙ ap (λ (z : ℤ). whole z) none)) (same_refl (whole (pos 0)))
 
-pub first_good : (P : Problem) (bx : List Range) → IsGood P bx (first_table P bx)
-first_good P bx =
+pub first_good : (P : Problem) (cuts : List Row) (bx : List Range) → IsGood P cuts bx (first_table P cuts bx)
+first_good P cuts bx =
     let hs : length (raises P.terms 0 bx) ≡ length bx = length_raises P.terms 0 bx in
     let cols = columns_from 0 (raises P.terms 0 bx) in
     let ns = corner (raises P.terms 0 bx) bx in
     let cols_long : length cols ≡ length (raises P.terms 0 bx) = length_columns 0 (raises P.terms 0 bx) in
     let many : length cols ≡ length bx = cols_long ∙ hs in
-    let high : length (map (first_row (raises P.terms 0 bx) ns) (quantities P bx)) ≡ length (quantities P bx) = length-map (quantities P bx) (first_row (raises P.terms 0 bx) ns) in
+    let high : length (map (first_row (raises P.terms 0 bx) ns) (quantities P cuts bx)) ≡ length (quantities P cuts bx) = length-map (quantities P cuts bx) (first_row (raises P.terms 0 bx) ns) in
     let at : (k : ℕ) (d : ℕ) → k < length cols → get_or cols k d ≡ place (get_or (raises P.terms 0 bx) k false) k = λ k d g.
     (let here : 0 + k ≡ k = omega arith in
     columns_at 0 (raises P.terms 0 bx) k d (omega (arith, g, cols_long)) ∙ ap (λ (n : ℕ). place (get_or (raises P.terms 0 bx) k false) n) here) in
     record {
       count = many;
       height = high;
-      width = All-map (λ (row : List Fraction). length row ≡ suc (length cols)) (first_row (raises P.terms 0 bx) ns) (quantities P bx)
-          (λ k d g. (let e = length_numbers (coefficient_in (get_or (quantities P bx) k d)) 0 (raises P.terms 0 bx) in ap suc (e ∙ sym cols_long)));
-      positive = All-map (λ (row : List Fraction). All HasPositiveDen row) (first_row (raises P.terms 0 bx) ns) (quantities P bx)
-          (λ k d g. row_den (raises P.terms 0 bx) ns (get_or (quantities P bx) k d));
+      width = All-map (λ (row : List Fraction). length row ≡ suc (length cols)) (first_row (raises P.terms 0 bx) ns) (quantities P cuts bx)
+          (λ k d g. (let e = length_numbers (coefficient_in (get_or (quantities P cuts bx) k d)) 0 (raises P.terms 0 bx) in ap suc (e ∙ sym cols_long)));
+      positive = All-map (λ (row : List Fraction). All HasPositiveDen row) (first_row (raises P.terms 0 bx) ns) (quantities P cuts bx)
+          (λ k d g. row_den (raises P.terms 0 bx) ns (get_or (quantities P cuts bx) k d));
       named = λ k d g.
-          (let below = place_below (get_or (raises P.terms 0 bx) k false) k (length bx) (length P.rows + length P.urows) (omega (arith, g, many)) in
-          let all = count_quantities P bx in
+          (let below = place_below (get_or (raises P.terms 0 bx) k false) k (length bx) (length P.rows + length P.urows + length cuts) (omega (arith, g, many)) in
+          let all = count_quantities P cuts bx in
           let is = at k d g in
           omega (arith, below, all, is, high));
-      functions = functions P bx;
-      taken = λ ys count d. taken P bx ys (count ∙ many) d;
+      functions = functions P cuts bx;
+      taken = λ ys count d. taken P cuts bx ys (count ∙ many) d;
       units = λ k g.
           (let inside : k < length bx = omega (arith, g, many) in
-          let row_is = ap (λ (n : ℕ). row_at (map (first_row (raises P.terms 0 bx) ns) (quantities P bx)) n) (at k 0 g)
-          ∙ quantity_at (first_row (raises P.terms 0 bx) ns) P bx (get_or (raises P.terms 0 bx) k false) k [] no_range inside in
+          let row_is = ap (λ (n : ℕ). row_at (map (first_row (raises P.terms 0 bx) ns) (quantities P cuts bx)) n) (at k 0 g)
+          ∙ quantity_at (first_row (raises P.terms 0 bx) ns) P cuts bx (get_or (raises P.terms 0 bx) k false) k [] no_range inside in
           subst (IsUnitRow (suc k)) (sym row_is) (unit_row (raises P.terms 0 bx) bx k no_range hs inside));
-      negative = λ k g. first_falls P bx k (omega (arith, g, many));
+      negative = λ k g. first_falls P cuts bx k (omega (arith, g, many));
     }

@@ -23,14 +23,14 @@ use Rattle.qm_tableau.specs.Leaving.{Placed, placed, next}
 use Rattle.qm_tableau.specs.Rule.{choice_at, choice_of, chosen, entering_column, greater_column, is_greater, leaving_row}
 use Rattle.qm_tableau.proofs.Exactness.{entry_den, next-ok, not_zero, placed-ok, quotient, same_value}
 
-lt_of_test : (a b : ℤ) → int_lt a b ≡ true → a <ℤ b
+pub lt_of_test : (a b : ℤ) → int_lt a b ≡ true → a <ℤ b
 lt_of_test a b e = grind (arith, ints)
 
 test_of_lt : (a b : ℤ) → a <ℤ b → int_lt a b ≡ true
 test_of_lt a b h = grind (arith, ints)
 
 -- ---- the leaving row
-leaving_is : (i : ℕ) (rows : List (List Fraction)) (r : ℕ) → leaving_row i rows ≡ Some r
+pub leaving_is : (i : ℕ) (rows : List (List Fraction)) (r : ℕ) → leaving_row i rows ≡ Some r
     → (k : ℕ) × (r ≡ i + k) × (k < length rows) × ((entry_of (row_at rows k) 0).num <ℤ pos 0)
 leaving_is i [] r h = absurd (cc)
 leaving_is i (row ∷ rows) r h = by_test (int_lt (entry_of row 0).num (pos 0)) refl (λ g. leaving_is (suc i) rows r g) h

@@ -19,6 +19,7 @@ use Rattle.qm_math.proofs.SameLists.{all_same_refl}
 use Rattle.qm_frac.specs.Checked.{divided, multiplied, subtracted}
 use Rattle.qm_frac.proofs.CheckedLaws.{IsFrac-divided, IsFrac-multiplied, IsFrac-subtracted, and_then-ok}
 use Rattle.qm_model.specs.declared.range.Range.{Range}
+use Rattle.qm_model.specs.declared.row.Row.{Row}
 use Rattle.qm_model.specs.declared.game.Problem.{Problem}
 use Rattle.qm_tableau.specs.declared.choice.Choice.TheVariants as choice
 use Rattle.qm_tableau.specs.Tables.{Table, entry_of, row_at}
@@ -70,7 +71,7 @@ module _ (c : ℕ) (l : List Fraction) (some : 0 < unsigned_abs (entry_of l c).n
       (All-cons (λ (r : List Fraction). All HasPositiveDen r) first.0 rest.0 (entries_positive i steps.0 0 row l first.0 fd rd ld steps.2)
       (rows_positive (suc i) rows rest.0 (All-tail (λ (r : List Fraction). All HasPositiveDen r) row rows d) rest.1))
 
-pivoted_positive : (t u : Table) (r c : ℕ) → r < length t.rows → 0 < unsigned_abs (entry_of (row_at t.rows r) c).num → All (λ row. All HasPositiveDen row) t.rows → pivoted t r c ≡ Ok u
+pub pivoted_positive : (t u : Table) (r c : ℕ) → r < length t.rows → 0 < unsigned_abs (entry_of (row_at t.rows r) c).num → All (λ row. All HasPositiveDen row) t.rows → pivoted t r c ≡ Ok u
     → All (λ row. All HasPositiveDen row) u.rows
 pivoted_positive t u r c inside some d h =
     let l = row_at t.rows r in
@@ -214,7 +215,7 @@ num_of p h = omega (arith, ints, h)
 below_of : (p : Fraction) → p.num <ℤ pos 0 → IsBelow p (whole (pos 0))
 below_of p h = omega (arith, ints, h)
 
-module _ (P : Problem) (bx : List Range) (t u : Table) (r c : ℕ) (gt : IsGood P bx t) (ch : IsChosen t r (suc c)) (h : pivoted t r (suc c) ≡ Ok u) where
+module _ (P : Problem) (cuts : List Row) (bx : List Range) (t u : Table) (r c : ℕ) (gt : IsGood P cuts bx t) (ch : IsChosen t r (suc c)) (h : pivoted t r (suc c) ≡ Ok u) where
   abbrev l : List Fraction
   l = row_at t.rows r
 
@@ -276,10 +277,10 @@ module _ (P : Problem) (bx : List Range) (t u : Table) (r c : ℕ) (gt : IsGood 
       subst (λ (n : ℕ). AllZip (λ now row. IsSame (affine_value now (set before n (affine_value l before))) (affine_value row before)) u.rows t.rows) place
       (pivot_keeps t u r (suc c) before ch.row (omega arith) (omega (arith, within)) some gt.width gt.positive count bd h)
 
-  functions : (xs : List Fraction) → IsPoint bx xs → ComeTo u.rows (column_values u.columns (values_at P bx xs)) (values_at P bx xs)
+  functions : (xs : List Fraction) → IsPoint bx xs → ComeTo u.rows (column_values u.columns (values_at P cuts bx xs)) (values_at P cuts bx xs)
   functions xs is =
-      let vs = values_at P bx xs in
-      let vd = values_den xs (quantities P bx) is.positive in
+      let vs = values_at P cuts bx xs in
+      let vd = values_den xs (quantities P cuts bx) is.positive in
       let before = column_values t.columns vs in
       let bd = column_values_den t.columns vs vd in
       let come = gt.functions xs is in
@@ -292,7 +293,7 @@ module _ (P : Problem) (bx : List Range) (t u : Table) (r c : ℕ) (gt : IsGood 
       subst (λ (ys : List Fraction). AllZip IsSame ys moved) (sym inputs) (set_same before c (entry_of vs r) y (same_sym y (entry_of vs r) comes)) in
       through u.rows t.rows vs (column_values u.columns vs) moved before same (kept before (length-map t.columns (entry_of vs)) bd) come ud gt.positive md bd
 
-  taken : (ys : List Fraction) → length ys ≡ length u.columns → All HasPositiveDen ys → (xs : List Fraction) × IsPoint bx xs × ComeTo u.rows ys (values_at P bx xs)
+  taken : (ys : List Fraction) → length ys ≡ length u.columns → All HasPositiveDen ys → (xs : List Fraction) × IsPoint bx xs × ComeTo u.rows ys (values_at P cuts bx xs)
   taken ys count yd =
       let inside : c < length ys = omega (arith, within, count, columns_long) in
       let s = solution l ys c ch.inside inside ld yd nz in
@@ -305,7 +306,7 @@ module _ (P : Problem) (bx : List Range) (t u : Table) (r c : ℕ) (gt : IsGood 
       let same : AllZip IsSame ys (set before c a) =
       subst (λ (w : List Fraction). AllZip IsSame ys w) (sym (set-set ys c z a)) (set_back ys c a (whole (pos 0)) inside (same_sym a (get_or ys c (whole (pos 0))) s.2)) in
       let at = gt.taken before before_long bd in
-      (at.0, at.1, through u.rows t.rows (values_at P bx at.0) ys (set before c a) before same (kept before before_long bd) at.2 ud gt.positive md bd)
+      (at.0, at.1, through u.rows t.rows (values_at P cuts bx at.0) ys (set before c a) before same (kept before before_long bd) at.2 ud gt.positive md bd)
 
   units : (k : ℕ) → k < length u.columns → IsUnitRow (suc k) (row_at u.rows (get_or u.columns k 0))
   units k below = ⊎_elim
@@ -329,7 +330,7 @@ module _ (P : Problem) (bx : List Range) (t u : Table) (r c : ℕ) (gt : IsGood 
       (gt.negative k inside) (gt.named k 0 inside) (λ other. gt.units k inside)
       (λ more. ch.greatest (suc k) (omega arith) (omega (arith, inside, long)) (num_of (entry_of l (suc k)) more))
 
-  good_after : IsGood P bx u
+  good_after : IsGood P cuts bx u
   good_after = record {
     count = columns_long ∙ gt.count;
     height = high ∙ gt.height;
@@ -347,11 +348,11 @@ module _ (P : Problem) (bx : List Range) (t u : Table) (r c : ℕ) (gt : IsGood 
   lower_after =
       pivot_lowers t u r (suc c) ch.row (omega arith) gt.width gt.positive (below_of (entry_of l 0) ch.constant) above (gt.negative c within) h
 
-pub pivot_good : (P : Problem) (bx : List Range) (t u : Table) (r c : ℕ) → IsGood P bx t → chosen t ≡ Ok (choice.Pivot r c) → pivoted t r c ≡ Ok u → IsGood P bx u
-pivot_good P bx t u r zero gt is h = absurd (let f = (chosen_is t r zero gt.positive is).from in omega (arith, f))
-pivot_good P bx t u r (suc c) gt is h = good_after P bx t u r c gt (chosen_is t r (suc c) gt.positive is) h
+pub pivot_good : (P : Problem) (cuts : List Row) (bx : List Range) (t u : Table) (r c : ℕ) → IsGood P cuts bx t → chosen t ≡ Ok (choice.Pivot r c) → pivoted t r c ≡ Ok u → IsGood P cuts bx u
+pivot_good P cuts bx t u r zero gt is h = absurd (let f = (chosen_is t r zero gt.positive is).from in omega (arith, f))
+pivot_good P cuts bx t u r (suc c) gt is h = good_after P cuts bx t u r c gt (chosen_is t r (suc c) gt.positive is) h
 
-pub pivot_falls : (P : Problem) (bx : List Range) (t u : Table) (r c : ℕ) → IsGood P bx t → chosen t ≡ Ok (choice.Pivot r c) → pivoted t r c ≡ Ok u
+pub pivot_falls : (P : Problem) (cuts : List Row) (bx : List Range) (t u : Table) (r c : ℕ) → IsGood P cuts bx t → chosen t ≡ Ok (choice.Pivot r c) → pivoted t r c ≡ Ok u
     → IsLexBelow (column_at u.rows 0) (column_at t.rows 0)
-pivot_falls P bx t u r zero gt is h = absurd (let f = (chosen_is t r zero gt.positive is).from in omega (arith, f))
-pivot_falls P bx t u r (suc c) gt is h = lower_after P bx t u r c gt (chosen_is t r (suc c) gt.positive is) h
+pivot_falls P cuts bx t u r zero gt is h = absurd (let f = (chosen_is t r zero gt.positive is).from in omega (arith, f))
+pivot_falls P cuts bx t u r (suc c) gt is h = lower_after P cuts bx t u r c gt (chosen_is t r (suc c) gt.positive is) h

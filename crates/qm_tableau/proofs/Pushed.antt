@@ -60,15 +60,19 @@ slack_done f i d rows done now all h is before =
     ∙ sym (at_drop_more (λ rs. done ++ flat_map f (map slack_quantity rs)) rows i d h) ∙ before
 
 -- the rows of all quantities, part by part
-pub all_rows : (f : Quantity → List Fraction) (P : Problem) (bx : List Range)
-    → (((([] ++ f (objective_quantity P)) ++ flat_map f (bound_quantities 0 bx)) ++ flat_map f (map slack_quantity P.rows)) ++ flat_map f (map slack_quantity P.urows))
-    ≡ flat_map f (quantities P bx)
-all_rows f P bx =
+pub all_rows : (f : Quantity → List Fraction) (P : Problem) (cuts : List Row) (bx : List Range)
+    → ((((([] ++ f (objective_quantity P)) ++ flat_map f (bound_quantities 0 bx)) ++ flat_map f (map slack_quantity P.rows)) ++ flat_map f (map slack_quantity P.urows))
+    ++ flat_map f (map slack_quantity cuts))
+    ≡ flat_map f (quantities P cuts bx)
+all_rows f P cuts bx =
     let a = f (objective_quantity P) in
     let b = flat_map f (bound_quantities 0 bx) in
     let c = flat_map f (map slack_quantity P.rows) in
     let d = flat_map f (map slack_quantity P.urows) in
-    let parts : flat_map f (bound_quantities 0 bx ++ (map slack_quantity P.rows ++ map slack_quantity P.urows)) ≡ b ++ (c ++ d) =
-    flat_map-append f (bound_quantities 0 bx) (map slack_quantity P.rows ++ map slack_quantity P.urows)
-    ∙ ap (λ (xs : List Fraction). b ++ xs) (flat_map-append f (map slack_quantity P.rows) (map slack_quantity P.urows)) in
-    append_assoc (a ++ b) c d ∙ append_assoc a b (c ++ d) ∙ ap (λ (xs : List Fraction). a ++ xs) (sym parts)
+    let e = flat_map f (map slack_quantity cuts) in
+    let slacks : flat_map f (map slack_quantity P.urows ++ map slack_quantity cuts) ≡ d ++ e = flat_map-append f (map slack_quantity P.urows) (map slack_quantity cuts) in
+    let parts : flat_map f (bound_quantities 0 bx ++ (map slack_quantity P.rows ++ (map slack_quantity P.urows ++ map slack_quantity cuts))) ≡ b ++ (c ++ (d ++ e)) =
+    flat_map-append f (bound_quantities 0 bx) (map slack_quantity P.rows ++ (map slack_quantity P.urows ++ map slack_quantity cuts))
+    ∙ ap (λ (xs : List Fraction). b ++ xs)
+    (flat_map-append f (map slack_quantity P.rows) (map slack_quantity P.urows ++ map slack_quantity cuts) ∙ ap (λ (xs : List Fraction). c ++ xs) slacks) in
+    append_assoc (((a ++ b) ++ c)) d e ∙ append_assoc (a ++ b) c (d ++ e) ∙ append_assoc a b (c ++ (d ++ e)) ∙ ap (λ (xs : List Fraction). a ++ xs) (sym parts)

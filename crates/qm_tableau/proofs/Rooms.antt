@@ -48,14 +48,17 @@ count_slacks : (rows : List Row) → length (map slack_quantity rows) ≡ length
 count_slacks [] = refl
 count_slacks (row ∷ rows) = ap suc (count_slacks rows)
 
-pub count_quantities : (P : Problem) (bx : List Range) → length (quantities P bx) ≡ 1 + 2 * length bx + length P.rows + length P.urows
-count_quantities P bx =
+pub count_quantities : (P : Problem) (cuts : List Row) (bx : List Range)
+    → length (quantities P cuts bx) ≡ 1 + 2 * length bx + length P.rows + length P.urows + length cuts
+count_quantities P cuts bx =
     let b = count_bounds 0 bx in
-    let all = length-append (bound_quantities 0 bx) (map slack_quantity P.rows ++ map slack_quantity P.urows) in
-    let slacks = length-append (map slack_quantity P.rows) (map slack_quantity P.urows) in
+    let all = length-append (bound_quantities 0 bx) (map slack_quantity P.rows ++ (map slack_quantity P.urows ++ map slack_quantity cuts)) in
+    let slacks = length-append (map slack_quantity P.rows) (map slack_quantity P.urows ++ map slack_quantity cuts) in
+    let others = length-append (map slack_quantity P.urows) (map slack_quantity cuts) in
     let r = count_slacks P.rows in
     let u = count_slacks P.urows in
-    omega (arith, b, all, slacks, r, u)
+    let c = count_slacks cuts in
+    omega (arith, b, all, slacks, others, r, u, c)
 
 -- lists of one length, one behind the other, are cut into these lists
 pub rows-flat_map : {X A : Type 0} (f : X → List A) (w : ℕ) (xs : List X) → ((x : X) → length (f x) ≡ w) → rows_of w (length xs) (flat_map f xs) ≡ map f xs
@@ -141,12 +144,12 @@ count_entries highs values qs columns height entries is columns_are height_is =
     ∙ ap₂ (λ (m n : ℕ). m * suc n) (sym height_is) (sym (ap (λ (cs : List ℕ). length cs) columns_are ∙ length_columns 0 highs))
 
 -- they are the rows
-pub table_is : (P : Problem) (bx : List Range) (highs : List Bool) (values : List ℤ) (columns : List ℕ) (height : ℕ) (entries : List Fraction) (t : Table)
+pub table_is : (P : Problem) (cuts : List Row) (bx : List Range) (highs : List Bool) (values : List ℤ) (columns : List ℕ) (height : ℕ) (entries : List Fraction) (t : Table)
     → t ≡ (record { columns = columns; rows = rows_of (suc (length columns)) height entries })
-    → entries ≡ flat_map (first_row highs values) (quantities P bx) → values ≡ corner highs bx → columns ≡ columns_from 0 highs → height ≡ length (quantities P bx)
-    → t ≡ table_at P bx highs
-table_is P bx highs values columns height entries t t_is is values_are columns_are height_is =
-    let qs = quantities P bx in
+    → entries ≡ flat_map (first_row highs values) (quantities P cuts bx) → values ≡ corner highs bx → columns ≡ columns_from 0 highs → height ≡ length (quantities P cuts bx)
+    → t ≡ table_at P cuts bx highs
+table_is P cuts bx highs values columns height entries t t_is is values_are columns_are height_is =
+    let qs = quantities P cuts bx in
     let pair : List ℕ → List (List Fraction) → Table = λ cs rows. record { columns = cs; rows = rows } in
     let wide : length columns ≡ length highs = ap (λ (cs : List ℕ). length cs) columns_are ∙ length_columns 0 highs in
     let rows : rows_of (suc (length columns)) height entries ≡ map (first_row highs (corner highs bx)) qs =

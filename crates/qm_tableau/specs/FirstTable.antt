@@ -1,8 +1,9 @@
--- The first tableau of a game and a box.
+-- The first tableau of a game, cuts and a box.
 use Rattle.std.specs.Prelude.{ℕ, suc, ◌+◌, ◌*◌, ◌^◌, ◌<◌, ◌≤◌, ℤ, pos, Bool, List, [], ◌∷◌, map, length, if◌then◌else◌, int_lt, unsigned_abs}
 use Rattle.qm_math.specs.Fraction.{Fraction, whole}
 use Rattle.qm_model.specs.declared.range.Range.{Range}
 use Rattle.qm_model.specs.declared.row.Term.{Term}
+use Rattle.qm_model.specs.declared.row.Row.{Row}
 use Rattle.qm_model.specs.declared.game.Problem.{Problem}
 use Rattle.qm_model.specs.Linear.{IsOrdered, HasVarsBelow, coefficient}
 use Rattle.qm_model.specs.Sizes.{reach_in_values, terms_size}
@@ -35,14 +36,14 @@ numbers_from coefficient_of var (high ∷ highs) =
 abbrev pub first_row : List Bool → List ℤ → Quantity → List Fraction
 first_row highs values q = whole (whole_value q values) ∷ numbers_from (coefficient_in q) 0 highs
 
-abbrev pub table_at : Problem → List Range → List Bool → Table
-table_at P bx highs = record {
+abbrev pub table_at : Problem → List Row → List Range → List Bool → Table
+table_at P cuts bx highs = record {
   columns = columns_from 0 highs;
-  rows = map (first_row highs (corner highs bx)) (quantities P bx);
+  rows = map (first_row highs (corner highs bx)) (quantities P cuts bx);
 }
 
-abbrev pub first_table : Problem → List Range → Table
-first_table P bx = table_at P bx (raises P.terms 0 bx)
+abbrev pub first_table : Problem → List Row → List Range → Table
+first_table P cuts bx = table_at P cuts bx (raises P.terms 0 bx)
 
 -- the quantity's terms are in order, and what it comes to at these values and its coefficients are not too large
 pub record HasRoom (values : List ℤ) (constant : ℤ) (ts : List Term) : Type 0 where

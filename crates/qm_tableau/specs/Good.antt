@@ -1,10 +1,11 @@
--- Good tableaus of a game and a box.
+-- Good tableaus of a game, cuts and a box.
 use Rattle.std.specs.Prelude.{◌≡◌, ◌≢◌, ℕ, suc, ◌<◌, ℤ, pos, List, [], ◌∷◌, All, map, length, slice_index_or}
 use Rattle.std.specs.List.{AllZip}
 use Rattle.qm_math.specs.Fraction.{Fraction, HasPositiveDen, IsSame, whole}
 use Rattle.qm_math.specs.Arithmetic.{product_of, sum_of}
 use Rattle.qm_math.specs.Lexicographic.{IsLexNegative}
 use Rattle.qm_model.specs.declared.range.Range.{Range}
+use Rattle.qm_model.specs.declared.row.Row.{Row}
 use Rattle.qm_model.specs.declared.game.Problem.{Problem}
 use Rattle.qm_tableau.specs.Tables.{Table, entry_of, row_at}
 use Rattle.qm_tableau.specs.Quantities.{Quantity, coefficient_in, quantities}
@@ -25,8 +26,8 @@ abbrev pub quantity_value : List Fraction → Quantity → Fraction
 quantity_value point q = sum_of (whole q.constant) (linear_value (coefficient_in q) 0 point)
 
 -- what all quantities come to at a point, row by row
-abbrev pub values_at : Problem → List Range → List Fraction → List Fraction
-values_at P bx point = map (quantity_value point) (quantities P bx)
+abbrev pub values_at : Problem → List Row → List Range → List Fraction → List Fraction
+values_at P cuts bx point = map (quantity_value point) (quantities P cuts bx)
 
 -- of these, those of the quantities that the columns belong to
 abbrev pub column_values : List ℕ → List Fraction → List Fraction
@@ -43,14 +44,14 @@ pub record IsUnitRow (k : ℕ) (row : List Fraction) : Type 0 where
 
 -- At each point each row is its quantity as a function of the columns' quantities, and any values of these are those at
 -- some point. The row of each column's own quantity is a unit row, and each column from 1 on is lexicographically negative.
-pub record IsGood (P : Problem) (bx : List Range) (t : Table) : Type 0 where
+pub record IsGood (P : Problem) (cuts : List Row) (bx : List Range) (t : Table) : Type 0 where
   pub count : length t.columns ≡ length bx
-  pub height : length t.rows ≡ length (quantities P bx)
+  pub height : length t.rows ≡ length (quantities P cuts bx)
   pub width : All (λ row. length row ≡ suc (length t.columns)) t.rows
   pub positive : All (λ row. All HasPositiveDen row) t.rows
   pub named : All (λ row. row < length t.rows) t.columns
-  pub functions : (point : List Fraction) → IsPoint bx point → ComeTo t.rows (column_values t.columns (values_at P bx point)) (values_at P bx point)
+  pub functions : (point : List Fraction) → IsPoint bx point → ComeTo t.rows (column_values t.columns (values_at P cuts bx point)) (values_at P cuts bx point)
   pub taken : (inputs : List Fraction) → length inputs ≡ length t.columns → All HasPositiveDen inputs
-      → (point : List Fraction) × IsPoint bx point × ComeTo t.rows inputs (values_at P bx point)
+      → (point : List Fraction) × IsPoint bx point × ComeTo t.rows inputs (values_at P cuts bx point)
   pub units : (k : ℕ) → k < length t.columns → IsUnitRow (suc k) (row_at t.rows (slice_index_or t.columns k 0))
   pub negative : (k : ℕ) → k < length t.columns → IsLexNegative (column_at t.rows (suc k))

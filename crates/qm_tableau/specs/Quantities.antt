@@ -46,8 +46,9 @@ abbrev pub bound_quantities : ℕ → List Range → List Quantity
 bound_quantities var [] = []
 bound_quantities var (r ∷ rs) = high_quantity var r ∷ low_quantity var r ∷ bound_quantities (suc var) rs
 
--- row by row: the objective, for each variable its distances from the ends of its range, the slacks of the rows and
--- those of the uncertainty rows
-abbrev pub quantities : Problem → List Range → List Quantity
-quantities P bx =
-    objective_quantity P ∷ (bound_quantities 0 bx ++ (map slack_quantity P.rows ++ map slack_quantity P.urows))
+-- row by row: the objective, for each variable its distances from the ends of its range, the slacks of the rows, those
+-- of the uncertainty rows and those of the cuts
+abbrev pub quantities : Problem → List Row → List Range → List Quantity
+quantities P cuts bx =
+    objective_quantity P ∷ (bound_quantities 0 bx
+    ++ (map slack_quantity P.rows ++ (map slack_quantity P.urows ++ map slack_quantity cuts)))

@@ -1,12 +1,12 @@
 -- The rule that names the next pivot.
-use Rattle.std.specs.Prelude.{ℕ, suc, pos, Bool, true, false, List, [], ◌∷◌, drop, Option, Some, None, Ok, if◌then◌else◌, int_lt}
+use Rattle.std.specs.Prelude.{ℕ, suc, ◌<◌, ◌≤◌, length, pos, ◌<ℤ◌, Bool, true, false, List, [], ◌∷◌, drop, Option, Some, None, Ok, if◌then◌else◌, int_lt}
 use Rattle.std.specs.declared.cmp.Ordering.TheVariants.{Less, Equal, Greater}
 use Rattle.qm_math.specs.Fraction.{Fraction}
 use Rattle.qm_frac.specs.Checked.{divided}
 use Rattle.qm_frac.specs.Order.{fraction_cmp}
 use Rattle.qm_tableau.specs.declared.choice.Choice.{Choice}
 use Rattle.qm_tableau.specs.declared.choice.Choice.TheVariants as choice
-use Rattle.qm_tableau.specs.Tables.{Table, entry_of, row_at}
+use Rattle.qm_tableau.specs.Tables.{Table, entry_at, entry_of, row_at}
 use Rattle.qm_tableau.specs.Leaving.{Placed, placed, next}
 
 -- the first row, from row i on, whose constant is negative
@@ -51,3 +51,9 @@ choice_at rows (Some r) =
 -- the choice: the leaving row is the first from row 1 on whose constant is negative
 abbrev pub chosen : Table → Placed Choice
 chosen t = choice_at t.rows (leaving_row 1 (drop 1 t.rows))
+
+-- the row of a choice is there, and in the column of a pivot, from column 1 on, it has a positive entry
+abbrev pub IsInside : List (List Fraction) → ℕ → Choice → Type 0
+IsInside rows width choice.Done = Unit {0}
+IsInside rows width (choice.VoidRow r) = r < length rows
+IsInside rows width (choice.Pivot r c) = (r < length rows) × (1 ≤ c) × (c < width) × (pos 0 <ℤ (entry_at rows r c).num)

@@ -1,7 +1,7 @@
-ghost use Rattle.std.specs.Prelude.{◌≡◌, ◌<◌, ◌≤◌, ◌^◌, ◌++◌, [], IfOk, OnOk, if◌then◌else◌, int_lt, length, pos, unsigned_abs, ◌+◌, ◌*◌, ℕ};
+ghost use Rattle.std.specs.Prelude.{◌≡◌, ◌<◌, ◌≤◌, ◌^◌, ◌++◌, [], All, IfOk, OnOk, if◌then◌else◌, int_lt, length, pos, unsigned_abs, ◌+◌, ◌*◌, ℕ};
 ghost use Rattle.qm_model.specs.Boxes.{IsBox};
 ghost use Rattle.qm_model.specs.Linear.{IsOrdered, coefficient};
-ghost use Rattle.qm_model.specs.Sound.{IsSound};
+ghost use Rattle.qm_model.specs.Sound.{IsRowOver, IsSound};
 ghost use Rattle.qm_tableau.specs.Quantities.{quantities};
 ghost use Rattle.qm_tableau.specs.FirstTable.{columns_from, corner, first_table, raises, table_at};
 
@@ -10,7 +10,7 @@ use crate::sparse::next_coefficient;
 use crate::tableau::Tableau;
 use qm_game::Bx;
 use qm_io::{List, Memory};
-use qm_model::{Game, Problem, Range, Term};
+use qm_model::{Game, Problem, Range, Row, Term};
 use std::alloc::Global;
 
 fn is_positive(n: i128) -> bool
@@ -75,14 +75,15 @@ fn columns(alloc: Global, highs: &[bool]) -> Result<List<u32>, Memory>
 
 /// How many rows the first tableau has.
 #[tactic(auto, using(crate::proofs::Rooms::count_quantities))]
-fn height_of(problem: &Problem, bx: &[Range]) -> usize
+fn height_of(problem: &Problem, cuts: &[Row], bx: &[Range]) -> usize
     requires vars { length bx.now < 2 ^ 29 }
     requires rows { length problem.now.rows < 2 ^ 29 }
     requires urows { length problem.now.urows < 2 ^ 29 }
-    ensures count { result ≡ length (quantities problem.now bx.now) }
+    requires cuts { length cuts.now < 2 ^ 29 }
+    ensures count { result ≡ length (quantities problem.now cuts.now bx.now) }
     ensures few { result < 2 ^ 32 }
 {
-    1 + 2 * bx.len() + problem.rows.len() + problem.urows.len()
+    1 + 2 * bx.len() + problem.rows.len() + problem.urows.len() + cuts.len()
 }
 
 /// The tableau whose columns are of these ends.
@@ -90,32 +91,37 @@ fn height_of(problem: &Problem, bx: &[Range]) -> usize
 fn table_at(
     alloc: Global,
     problem: &Problem,
+    cuts: &[Row],
     bx: &[Range],
     highs: &[bool],
 ) -> Result<Tableau, Memory>
     requires sound { IsSound problem.now }
+    requires cuts { All (IsRowOver problem.now.vars) cuts.now }
+    requires few_cuts { length cuts.now < 2 ^ 29 }
     requires ranges { IsBox problem.now.vars bx.now }
     requires highs { length highs.now ≡ length bx.now }
-    ensures { IfOk result (λ t. t ≡ table_at problem.now bx.now highs.now) }
+    ensures { IfOk result (λ t. t ≡ table_at problem.now cuts.now bx.now highs.now) }
 {
     let values = corner(alloc, highs, bx)?;
     let columns = columns(alloc, highs)?;
-    let entries = first_entries(alloc, problem, bx, highs, values.as_slice())?;
+    let entries = first_entries(alloc, problem, cuts, bx, highs, values.as_slice())?;
     let mut spare = List::new(alloc);
     spare.append(entries.as_slice())?;
-    Ok(Tableau::new(columns, entries, spare, height_of(problem, bx)))
+    Ok(Tableau::new(columns, entries, spare, height_of(problem, cuts, bx)))
 }
 
 /// The tableau with a column for each variable: that of its distance from its high end where it raises the
 /// objective, else from its low end. `Memory`, where there is none for it and for the room that pivots
 /// need; no operation leaves.
 #[tactic(auto, using(crate::proofs::Rooms::few_ranges, crate::proofs::Rooms::objective_narrow, crate::proofs::Rooms::length_raises))]
-pub fn first(alloc: Global, game: &Game, bx: &Bx) -> Result<Tableau, Memory>
-    requires { IsBox game.now.vars bx.now }
-    ensures { IfOk result (λ t. t ≡ first_table game.now bx.now) }
+pub fn first(alloc: Global, game: &Game, cuts: &[Row], bx: &Bx) -> Result<Tableau, Memory>
+    requires cuts { All (IsRowOver game.now.vars) cuts.now }
+    requires few_cuts { length cuts.now < 2 ^ 29 }
+    requires bx { IsBox game.now.vars bx.now }
+    ensures { IfOk result (λ t. t ≡ first_table game.now cuts.now bx.now) }
 {
     let problem = game.problem();
     let ranges = bx.as_slice();
     let highs = raises(alloc, problem.terms.as_slice(), ranges)?;
-    table_at(alloc, problem, ranges, highs.as_slice())
+    table_at(alloc, problem, cuts, ranges, highs.as_slice())
 }

@@ -2,7 +2,7 @@ ghost use Rattle.std.specs.Prelude.{◌≡◌, ◌<◌, ◌≤◌, ◌^◌, ◌�
 ghost use Rattle.qm_frac.specs.Checked.{divided};
 ghost use Rattle.qm_tableau.specs.Tables.{entry_of, entry_at, row_at};
 ghost use Rattle.qm_tableau.specs.Leaving.{placed};
-ghost use Rattle.qm_tableau.specs.Rule.{choice_at, choice_of, chosen, entering_column, greater_column, is_greater, leaving_row};
+ghost use Rattle.qm_tableau.specs.Rule.{choice_at, choice_of, chosen, entering_column, greater_column, is_greater, leaving_row, IsInside};
 
 use crate::grid::Grid;
 use crate::{Choice, LeavesAt};
@@ -73,11 +73,12 @@ fn greater_column(
 ) -> Result<u32, LeavesAt>
     requires few { length numbers.now.rows < 2 ^ 32 }
     requires leaving { length leaving.now ≡ numbers.now.width }
+    requires from { 1 ≤ k }
     requires k { k < numbers.now.width }
     requires by { pos 0 <ℤ (entry_of leaving.now k).num }
-    requires best { IfSome best (λ b. (b < numbers.now.width) × (pos 0 <ℤ (entry_of leaving.now b).num)) }
+    requires best { IfSome best (λ b. (1 ≤ b) × (b < numbers.now.width) × (pos 0 <ℤ (entry_of leaving.now b).num)) }
     ensures column { result ≡ greater_column numbers.now.rows leaving.now k best }
-    ensures candidate { IfOk result (λ b. (b < numbers.now.width) × (pos 0 <ℤ (entry_of leaving.now b).num)) }
+    ensures candidate { IfOk result (λ b. (1 ≤ b) × (b < numbers.now.width) × (pos 0 <ℤ (entry_of leaving.now b).num)) }
 {
     match best {
         None => Ok(k),
@@ -97,10 +98,11 @@ fn with_column(
 ) -> Result<Option<u32>, LeavesAt>
     requires few { length numbers.now.rows < 2 ^ 32 }
     requires leaving { length leaving.now ≡ numbers.now.width }
+    requires from { 1 ≤ k }
     requires k { k < numbers.now.width }
-    requires best { IfSome best (λ b. (b < numbers.now.width) × (pos 0 <ℤ (entry_of leaving.now b).num)) }
+    requires best { IfSome best (λ b. (1 ≤ b) × (b < numbers.now.width) × (pos 0 <ℤ (entry_of leaving.now b).num)) }
     ensures answer { result ≡ entering_column numbers.now.rows leaving.now k best (entry_of leaving.now k ∷ []) }
-    ensures best { IfOk result (λ o. IfSome o (λ b. (b < numbers.now.width) × (pos 0 <ℤ (entry_of leaving.now b).num))) }
+    ensures best { IfOk result (λ o. IfSome o (λ b. (1 ≤ b) × (b < numbers.now.width) × (pos 0 <ℤ (entry_of leaving.now b).num))) }
 {
     if leaving[k as usize].num() <= 0 {
         return Ok(best);
@@ -115,7 +117,8 @@ fn entering_column(numbers: &Grid, leaving: &[Frac]) -> Result<Option<u32>, Leav
     requires few { length numbers.now.rows < 2 ^ 32 }
     requires few_columns { numbers.now.width < 2 ^ 32 }
     requires leaving { length leaving.now ≡ numbers.now.width }
-    ensures { result ≡ entering_column numbers.now.rows leaving.now 1 None (drop 1 leaving.now) }
+    ensures column { result ≡ entering_column numbers.now.rows leaving.now 1 None (drop 1 leaving.now) }
+    ensures candidate { IfOk result (λ o. IfSome o (λ b. (1 ≤ b) × (b < numbers.now.width) × (pos 0 <ℤ (entry_of leaving.now b).num))) }
 {
     let mut best = None;
     for k in 1..leaving.len() {
@@ -138,7 +141,8 @@ pub fn choose_among(numbers: &Grid) -> Result<Choice, LeavesAt>
     requires few { length numbers.now.rows < 2 ^ 32 }
     requires few_columns { numbers.now.width < 2 ^ 32 }
     requires width { 0 < numbers.now.width }
-    ensures { result ≡ choice_at numbers.now.rows (leaving_row 1 (drop 1 numbers.now.rows)) }
+    ensures choice { result ≡ choice_at numbers.now.rows (leaving_row 1 (drop 1 numbers.now.rows)) }
+    ensures inside { IfOk result (IsInside numbers.now.rows numbers.now.width) }
 {
     match leaving_row(numbers) {
         None => Ok(Choice::Done),

@@ -1,12 +1,12 @@
-ghost use Rattle.std.specs.Prelude.{◌≡◌, ◌<◌, ◌≤◌, ◌^◌, ◌++◌, ◌∷◌, [], All, ℕ, IfOk, OnOk, length, map, pos, neg_ℤ, true, false, unsigned_abs};
+ghost use Rattle.std.specs.Prelude.{◌≡◌, ◌<◌, ◌≤◌, ◌^◌, ◌++◌, All, ℕ, IfOk, OnOk, length, map, neg_ℤ, true, false, unsigned_abs};
 ghost use Rattle.std.specs.List.{flat_map};
 ghost use Rattle.qm_model.specs.Linear.{IsOrdered, coefficient};
 ghost use Rattle.qm_math.specs.Fraction.{whole};
-ghost use Rattle.qm_tableau.specs.Quantities.{bound_quantities, coefficient_in, high_quantity, low_quantity, quantities, slack_quantity, turned, whole_value};
+ghost use Rattle.qm_tableau.specs.Quantities.{bound_quantities, high_quantity, low_quantity, quantities, slack_quantity, turned, whole_value};
 ghost use Rattle.qm_tableau.specs.FirstTable.{HasRoom, first_row, numbers_from};
 
-use crate::sparse::{fraction, next_coefficient, turned};
-use qm_frac::Frac;
+use crate::sparse::{next_coefficient, turned};
+use qm_frac::{Frac, over_one};
 use qm_game::form_at;
 use qm_io::{List, Memory};
 use qm_model::{Problem, Range, Row, Term};
@@ -17,7 +17,7 @@ fn number(high: bool, less: bool, coefficient: i128) -> Frac
     requires { unsigned_abs coefficient < 2 ^ 127 }
     ensures { result ≡ whole (turned high (turned less coefficient)) }
 {
-    fraction(turned(high, turned(less, coefficient)))
+    over_one(turned(high, turned(less, coefficient)))
 }
 
 /// Puts the numbers of a row at the end.
@@ -68,7 +68,7 @@ pub fn push_row(
     requires few { length highs.now < 2 ^ 29 }
     ensures { OnOk result (entries.new ≡ entries.old ++ first_row highs.now values.now (record { constant = constant; less = less; terms = terms.now })) }
 {
-    entries.push(fraction(value_at(constant, less, terms, values)))?;
+    entries.push(over_one(value_at(constant, less, terms, values)))?;
     push_numbers(entries, less, terms, highs)
 }
 
@@ -161,6 +161,7 @@ pub fn push_slacks(
 pub fn first_entries(
     alloc: Global,
     problem: &Problem,
+    cuts: &[Row],
     bx: &[Range],
     highs: &[bool],
     values: &[i64],
@@ -171,7 +172,8 @@ pub fn first_entries(
     requires objective { HasRoom values.now problem.now.constant problem.now.terms }
     requires rows { All (λ row. HasRoom values.now row.right row.terms) problem.now.rows }
     requires urows { All (λ row. HasRoom values.now row.right row.terms) problem.now.urows }
-    ensures { IfOk result (λ entries. entries ≡ flat_map (first_row highs.now values.now) (quantities problem.now bx.now)) }
+    requires cuts { All (λ row. HasRoom values.now row.right row.terms) cuts.now }
+    ensures { IfOk result (λ entries. entries ≡ flat_map (first_row highs.now values.now) (quantities problem.now cuts.now bx.now)) }
 {
     let mut entries = List::new(alloc);
     push_row(
@@ -185,5 +187,6 @@ pub fn first_entries(
     push_bounds(&mut entries, bx, highs, values)?;
     push_slacks(&mut entries, problem.rows.as_slice(), highs, values)?;
     push_slacks(&mut entries, problem.urows.as_slice(), highs, values)?;
+    push_slacks(&mut entries, cuts, highs, values)?;
     Ok(entries)
 }

@@ -8,6 +8,7 @@ ghost use Rattle.qm_tableau.specs.Rule.{chosen};
 ghost use Rattle.qm_tableau.specs.declared.choice.Choice.TheVariants as choice;
 ghost use Rattle.qm_tableau.specs.Columns.{affine_value, column_at};
 ghost use Rattle.qm_model.specs.declared.range.Range.{Range};
+ghost use Rattle.qm_model.specs.declared.row.Row.{Row};
 ghost use Rattle.qm_model.specs.declared.game.Problem.{Problem};
 ghost use Rattle.qm_tableau.specs.FirstTable.{first_table};
 ghost use Rattle.qm_tableau.specs.Good.{IsGood};
@@ -52,31 +53,31 @@ pub fn pivots_lower_the_constants()
 /// Each column of the first tableau from column 1 on is lexicographically negative.
 #[tactic(auto, using(crate::proofs::Falling::first_falls))]
 pub fn the_first_columns_are_negative()
-    ensures { (P : Problem) (bx : List Range) (j : ℕ) → j < length bx →
-        IsLexNegative (column_at (first_table P bx).rows (suc j)) }
+    ensures { (P : Problem) (cuts : List Row) (bx : List Range) (j : ℕ) → j < length bx →
+        IsLexNegative (column_at (first_table P cuts bx).rows (suc j)) }
 {}
 
 /// The quantities that the columns belong to decide the column of constants: two good tableaus of one
-/// game and one box with the same of them have the same one.
+/// game, the same cuts and one box with the same of them have the same one.
 #[tactic(auto, using(crate::proofs::Constants::same_constants))]
 pub fn the_columns_decide_the_constants()
-    ensures { (P : Problem) (bx : List Range) (t u : Table) → IsGood P bx t → IsGood P bx u →
+    ensures { (P : Problem) (cuts : List Row) (bx : List Range) (t u : Table) → IsGood P cuts bx t → IsGood P cuts bx u →
         All (Contains t.columns) u.columns →
         AllZip IsSame (column_at t.rows 0) (column_at u.rows 0) }
 {}
 
-/// The first tableau of a game and a box is good.
+/// The first tableau of a game, cuts and a box is good.
 pub fn the_first_tableau_is_good()
-    ensures { (P : Problem) (bx : List Range) → IsGood P bx (first_table P bx) }
+    ensures { (P : Problem) (cuts : List Row) (bx : List Range) → IsGood P cuts bx (first_table P cuts bx) }
 {}
 
 /// A pivot that the rule names and that doesn't leave keeps a tableau good, and makes its column of
 /// constants lexicographically smaller.
 #[tactic(auto, using(crate::proofs::PivotGood::pivot_falls))]
 pub fn pivots_keep_tableaus_good()
-    ensures good { (P : Problem) (bx : List Range) (t u : Table) (r c : ℕ) → IsGood P bx t →
-        chosen t ≡ Ok (choice.Pivot r c) → pivoted t r c ≡ Ok u → IsGood P bx u }
-    ensures falls { (P : Problem) (bx : List Range) (t u : Table) (r c : ℕ) → IsGood P bx t →
+    ensures good { (P : Problem) (cuts : List Row) (bx : List Range) (t u : Table) (r c : ℕ) → IsGood P cuts bx t →
+        chosen t ≡ Ok (choice.Pivot r c) → pivoted t r c ≡ Ok u → IsGood P cuts bx u }
+    ensures falls { (P : Problem) (cuts : List Row) (bx : List Range) (t u : Table) (r c : ℕ) → IsGood P cuts bx t →
         chosen t ≡ Ok (choice.Pivot r c) → pivoted t r c ≡ Ok u →
         IsLexBelow (column_at u.rows 0) (column_at t.rows 0) }
 {}

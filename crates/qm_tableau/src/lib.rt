@@ -1,5 +1,5 @@
-//! Tableaus: quantities of a game and a box as affine functions of as many of them. The first tableau,
-//! the rule that names the next pivot, and the pivot, each exact to the operation that leaves.
+//! Tableaus: quantities of a game, cuts and a box as affine functions of as many of them. The first
+//! tableau, the rule that names the next pivot, and the pivot, each exact to the operation that leaves.
 #![tactic(auto)]
 
 mod beginning;

@@ -1,9 +1,7 @@
 ghost use Rattle.std.specs.Prelude.{◌≡◌, ◌≤◌, ◌<◌, ◌^◌, ℕ, suc, unsigned_abs};
-ghost use Rattle.qm_math.specs.Fraction.{whole};
 ghost use Rattle.qm_model.specs.Linear.{IsOrderedFrom, coefficient};
 ghost use Rattle.qm_tableau.specs.Quantities.{turned};
 
-use qm_frac::Frac;
 use qm_model::Term;
 
 fn number_of(term: Term) -> i128
@@ -29,17 +27,6 @@ pub fn next_coefficient(terms: &[Term], var: u32) -> (i128, &[Term])
             }
         }
         None => (0, terms),
-    }
-}
-
-/// The whole number as a fraction.
-pub fn fraction(n: i128) -> Frac
-    requires { unsigned_abs n < 2 ^ 127 }
-    ensures { result ≡ whole n }
-{
-    match Frac::of(n, 1) {
-        Some(fraction) => fraction,
-        None => Frac::whole(0),
     }
 }
 

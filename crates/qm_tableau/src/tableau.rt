@@ -1,8 +1,8 @@
-ghost use Rattle.std.specs.Prelude.{◌≡◌, ◌<◌, ◌≤◌, ◌*◌, ◌^◌, ◌-◌, suc, OnErr, length, slice_index_or, unsigned_abs};
-ghost use Rattle.qm_tableau.specs.Tables.{entry_at, rows_of};
+ghost use Rattle.std.specs.Prelude.{◌≡◌, ◌<◌, ◌≤◌, ◌*◌, ◌^◌, ◌-◌, suc, IfOk, OnErr, length, slice_index_or, unsigned_abs};
+ghost use Rattle.qm_tableau.specs.Tables.{entry_at, row_at, rows_of};
 ghost use Rattle.qm_tableau.specs.Leaving.{giving};
 ghost use Rattle.qm_tableau.specs.Pivoting.{pivoted};
-ghost use Rattle.qm_tableau.specs.Rule.{chosen};
+ghost use Rattle.qm_tableau.specs.Rule.{IsInside, chosen};
 
 use crate::choosing::choose_among;
 use crate::grid::Grid;
@@ -54,14 +54,16 @@ impl Tableau {
 
     /// How many rows there are.
     pub fn height(&self) -> usize
-        ensures { result ≡ length self.now.rows }
+        ensures count { result ≡ length self.now.rows }
+        ensures few { result < 2 ^ 32 }
     {
         self.numbers.height()
     }
 
     /// How many columns there are, the constants' among them.
     pub fn width(&self) -> usize
-        ensures { result ≡ suc (length self.now.columns) }
+        ensures count { result ≡ suc (length self.now.columns) }
+        ensures few { result < 2 ^ 32 }
     {
         self.numbers.width()
     }
@@ -75,6 +77,22 @@ impl Tableau {
         self.columns.as_slice()[col as usize - 1]
     }
 
+    /// For each column from 1 on, the row whose quantity it belongs to.
+    pub fn columns(&self) -> &[u32]
+        ensures { result.now ≡ self.now.columns }
+    {
+        self.columns.as_slice()
+    }
+
+    /// The entries of a row, the constant in front.
+    pub fn row(&self, row: u32) -> &[Frac]
+        requires { row < length self.now.rows }
+        ensures row { result.now ≡ row_at self.now.rows row }
+        ensures width { length result.now ≡ suc (length self.now.columns) }
+    {
+        self.numbers.row(row as usize)
+    }
+
     /// The entry in this row and column.
     pub fn entry(&self, row: u32, col: u32) -> Frac
         requires row { row < length self.now.rows }
@@ -86,7 +104,8 @@ impl Tableau {
 
     /// The next pivot by the rule. `LeavesAt` names the first operation that leaves.
     pub fn choose(&self) -> Result<Choice, LeavesAt>
-        ensures { result ≡ chosen self.now }
+        ensures choice { result ≡ chosen self.now }
+        ensures inside { IfOk result (IsInside self.now.rows (suc (length self.now.columns))) }
     {
         choose_among(&self.numbers)
     }

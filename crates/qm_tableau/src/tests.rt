@@ -1,4 +1,5 @@
 mod choices;
+mod cuts;
 mod games;
 mod pieces;
 mod pivots;

@@ -1,7 +1,7 @@
 // What games are made of, and calls whose conditions are tested as they are made.
-ghost use Rattle.std.specs.Prelude.{◌≡◌, ◌<ℤ◌, ◌∷◌, [], IfOk, false, pos};
+ghost use Rattle.std.specs.Prelude.{◌≡◌, ◌<◌, ◌<ℤ◌, ◌^◌, ◌∷◌, [], All, IfOk, false, length, pos};
 ghost use Rattle.qm_model.specs.Linear.{IsOrdered};
-ghost use Rattle.qm_model.specs.Sound.{IsSound};
+ghost use Rattle.qm_model.specs.Sound.{IsRowOver, IsSound};
 ghost use Rattle.qm_model.specs.declared.game.Sense.TheVariants as sense;
 ghost use Rattle.qm_model.specs.declared.variable.Player.TheVariants as player;
 
@@ -85,6 +85,7 @@ pub(super) fn two_rows(alloc: Global, first: Row, second: Row) -> Result<List<Ro
 
 pub(super) fn game_of(alloc: Global, vars: List<Var>, rows: List<Row>, terms: Terms) -> Game
     requires { IsSound (record { sense = sense.Max; vars = vars; wholes = 0; rows = rows; urows = []; terms = terms; constant = pos 0; scale = pos 1 }) }
+    ensures { result.vars ≡ vars }
 {
     Game::new(Problem {
         sense: Sense::Max,
@@ -98,10 +99,18 @@ pub(super) fn game_of(alloc: Global, vars: List<Var>, rows: List<Row>, terms: Te
     })
 }
 
-/// The first tableau over the whole box.
-pub(super) fn first_of(alloc: Global, game: &Game) -> Result<Tableau, Memory> {
+/// The first tableau with these cuts over the whole box.
+pub(super) fn first_with(alloc: Global, game: &Game, cuts: &[Row]) -> Result<Tableau, Memory>
+    requires cuts { All (IsRowOver game.now.vars) cuts.now }
+    requires few_cuts { length cuts.now < 2 ^ 29 }
+{
     let bx = whole_box(alloc, game)?;
-    first(alloc, game, &bx)
+    first(alloc, game, cuts, &bx)
+}
+
+/// The first tableau over the whole box, without cuts.
+pub(super) fn first_of(alloc: Global, game: &Game) -> Result<Tableau, Memory> {
+    first_with(alloc, game, &[])
 }
 
 pub(super) fn fraction(num: i128, den: i128) -> Result<Frac, Fail>
@@ -119,6 +128,20 @@ pub(super) fn entry(tableau: &Tableau, row: u32, col: u32) -> Result<Frac, Fail>
         return Err(Fail::new("no entry"));
     }
     Ok(tableau.entry(row, col))
+}
+
+/// Whether these are the numerators of all entries over this denominator.
+pub(super) fn has_rows(tableau: &Tableau, rows: &[[i128; 3]], den: i128) -> Result<bool, Fail>
+    requires den { pos 0 <ℤ den }
+    requires few { length rows.now < 100 }
+{
+    let mut same = tableau.height() == rows.len() && tableau.width() == 3;
+    for (i, row) in rows.iter().enumerate() {
+        for (k, num) in row.iter().enumerate() {
+            same = same && entry(tableau, i as u32, k as u32)? == fraction(*num, den)?;
+        }
+    }
+    Ok(same)
 }
 
 /// What the pivot answers, where it has a condition that holds.

@@ -1,25 +1,9 @@
 // Entries before and after a pivot, and a pivot that leaves.
-ghost use Rattle.std.specs.Prelude.{◌<ℤ◌, ◌<◌, length, pos};
-
+use crate::LeavesAt;
 use crate::tests::games::{GREAT, third, wide};
-use crate::tests::pieces::{entry, first_of, fraction, pivot};
-use crate::{LeavesAt, Tableau};
+use crate::tests::pieces::{first_of, fraction, has_rows, pivot};
 use qm_frac::{Leaves, Op};
 use std::test::Fail;
-
-// The numerators of all entries over this denominator.
-fn has_rows(tableau: &Tableau, rows: &[[i128; 3]], den: i128) -> Result<bool, Fail>
-    requires den { pos 0 <ℤ den }
-    requires few { length rows.now < 100 }
-{
-    let mut same = tableau.height() == rows.len() && tableau.width() == 3;
-    for (i, row) in rows.iter().enumerate() {
-        for (k, num) in row.iter().enumerate() {
-            same = same && entry(tableau, i as u32, k as u32)? == fraction(*num, den)?;
-        }
-    }
-    Ok(same)
-}
 
 #[test]
 fn a_pivot_exchanges_two_quantities(rt: HostRuntime) -> Result<(), Fail> {
