@@ -1,5 +1,6 @@
-ghost use Rattle.std.specs.Prelude.{◌≡◌, ◌≢◌, ◌+◌, ◌*◌, ◌<◌, ◌≤◌, All, IfOk, length, pos, unsigned_abs};
-ghost use Rattle.bench.specs.Games.{IsPlain, IsPlainRow};
+ghost use Rattle.std.specs.Prelude.{◌≡◌, ◌≢◌, ◌+◌, ◌*◌, ◌<◌, ◌≤◌, [], All, IfOk, IsTrue, length, pos, true, unsigned_abs};
+ghost use Rattle.qm_model.specs.Plays.{is_universal};
+ghost use Rattle.bench.specs.Games.{AreUniversal, IsPlain, IsPlainRow, IsPlainUncertainty};
 
 use qm_game::{Bx, Game, Player, Problem, Row, Sense, Term, Terms, Var, whole_box};
 use qm_io::{List, Memory};
@@ -7,25 +8,38 @@ use qm_prop::{Propagated, propagate};
 use smallvec::SmallVec;
 use std::alloc::Global;
 
-fn variable(alloc: Global) -> Var
-    ensures { IsPlain result }
+// A binary that the universal player sets, or a variable from 0 to 1000 that the existential player sets.
+fn variable(alloc: Global, universal: bool) -> Var
+    ensures plain { IsPlain result }
+    ensures universal { IsTrue universal → IsTrue (is_universal result) }
 {
-    Var {
-        name: List::new(alloc),
-        player: Player::Exists,
-        whole: true,
-        low: 0,
-        high: 1000,
+    if universal {
+        var_of(alloc, Player::All, 1)
+    } else {
+        var_of(alloc, Player::Exists, 1000)
     }
 }
 
-fn variables(alloc: Global) -> Result<List<Var>, Memory>
+fn var_of(alloc: Global, player: Player, high: i64) -> Var
+    ensures { result ≡ record { name = []; player = player; whole = true; low = pos 0; high = high } }
+{
+    Var {
+        name: List::new(alloc),
+        player,
+        whole: true,
+        low: 0,
+        high,
+    }
+}
+
+fn variables(alloc: Global, universals: u32) -> Result<List<Var>, Memory>
     ensures many { IfOk result (λ vars. length vars ≡ 1000) }
     ensures plain { IfOk result (All IsPlain) }
+    ensures universal { IfOk result (AreUniversal universals) }
 {
     let mut vars = List::new(alloc);
-    for _ in 0..1000u32 {
-        vars.push(variable(alloc))?;
+    for number in 0..1000u32 {
+        vars.push(variable(alloc, number < universals))?;
     }
     Ok(vars)
 }
@@ -100,14 +114,19 @@ fn rows(alloc: Global) -> Result<List<Row>, Memory>
     Ok(rows)
 }
 
-// A game of 1,000 whole variables and 2,000 rows.
-fn game(alloc: Global) -> Result<Game, Memory> {
+/// A game of 1,000 whole variables and 2,000 rows, where the universal player sets the first so many variables and is to
+/// meet these rows.
+pub fn game(alloc: Global, universals: u32, urows: List<Row>) -> Result<Game, Memory>
+    requires universals { universals ≤ 1000 }
+    requires few { length urows ≤ 1000 }
+    requires urows { All (IsPlainUncertainty universals) urows }
+{
     Ok(Game::new(Problem {
         sense: Sense::Max,
-        vars: variables(alloc)?,
+        vars: variables(alloc, universals)?,
         wholes: 1000,
         rows: rows(alloc)?,
-        urows: List::new(alloc),
+        urows,
         terms: Terms::new(SmallVec::new(alloc)),
         constant: 0,
         scale: 1,
@@ -124,7 +143,7 @@ fn count(end: &Propagated) -> usize {
 /// How many reasons propagation gives on a game of 1,000 variables and 2,000 rows, which is propagated so many times;
 /// 0 where it is not propagated.
 pub fn reasons_in(alloc: Global, times: u32) -> Result<usize, Memory> {
-    let game = game(alloc)?;
+    let game = game(alloc, 0, List::new(alloc))?;
     let mut reasons = 0;
     for _ in 0..times {
         let bx: Bx = whole_box(alloc, &game)?;

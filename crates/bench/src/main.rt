@@ -1,20 +1,27 @@
 //! Does one operation of fractions many times, and prints a number made of all the answers.
 //! Its words are the operation, the kind of the operands and how many thousand times; or `tokens` and how many
 //! thousand bytes of text are to be cut into tokens; or `parse` and how many thousand terms a text has that is to be
-//! read; or `propagate` and how many times a game is to be propagated; or `pivots`, the shape of a made tableau and how
-//! many pairs of pivots are to be done on it, the second of each taking the first back. It is timed from outside.
+//! read; or `propagate` and how many times a game is to be propagated; or `legal` and how many times legality is to be
+//! asked of a game with budgets of the universal player; or `pivots`, the shape of a made tableau and how
+//! many pairs of pivots are to be done on it, the second of each taking the first back; or `runs`, the number of
+//! variables and the seed of a made problem, and how many times its relaxation is to be solved. It is timed from outside.
 #![tactic(auto)]
 
+mod drawn;
 mod games;
+mod legality;
 mod operands;
 mod parses;
+mod runs;
 mod tableaus;
 mod texts;
 mod work;
 
 use games::reasons_in;
+use legality::completed_in;
 use operands::Operands;
 use parses::rows_in;
+use runs::Runs;
 use std::{env, io};
 use tableaus::{Shape, pivots};
 use texts::tokens_in;
@@ -24,6 +31,15 @@ fn main(rt: HostRuntime) -> io::Result<()> {
     let alloc = rt.alloc();
     let words: Vec<String> = env::args(&rt)?.skip(1).collect(alloc)?;
     match words.as_slice() {
+        [work, size, seed, times] if work.as_str() == "runs" => {
+            match Runs::read(size.as_str(), seed.as_str(), times.as_str()) {
+                Some(runs) => match runs.last(alloc) {
+                    Ok(ended) => println!(rt; "{} {}", ended.ending.word(), ended.pivots),
+                    Err(_) => println!(rt; "memory"),
+                },
+                None => println!(rt; "?"),
+            }
+        }
         [work, shape, pairs] if work.as_str() == "pivots" => {
             match (
                 Shape::read(shape.as_str()),
@@ -54,6 +70,10 @@ fn main(rt: HostRuntime) -> io::Result<()> {
                 println!(rt; "{count}")
             }
             ("propagate", Ok(times)) => match reasons_in(alloc, times) {
+                Ok(count) => println!(rt; "{count}"),
+                Err(_) => println!(rt; "out of memory"),
+            },
+            ("legal", Ok(times)) => match completed_in(alloc, times) {
                 Ok(count) => println!(rt; "{count}"),
                 Err(_) => println!(rt; "out of memory"),
             },

@@ -1,29 +1,12 @@
 use crate::faults::fault_of;
 use crate::numbers::{Reading, number_of};
 use crate::question::{Question, over, read_question};
+use crate::runs::run_of;
+use crate::shown::{fraction_text, leaves_text};
 use crate::tokens::tokens_of;
-use qm_frac::{Frac, Leaves, Op};
+use qm_frac::{Frac, Leaves};
 use std::alloc::{AllocError, Global};
 use std::cmp::Ordering;
-use std::fmt;
-
-// A fraction as it is printed: `A`, or `A/B` where B isn't 1.
-#[derive(Clone, Copy)]
-struct Shown {
-    value: Frac,
-}
-
-impl fmt::Display for Shown {
-    fn fmt<W: fmt::Write>(&self, f: &mut fmt::Formatter<W>) -> fmt::Result {
-        let num = self.value.num();
-        let den = self.value.den();
-        if den == 1 {
-            write!(f, "{num}")
-        } else {
-            write!(f, "{num}/{den}")
-        }
-    }
-}
 
 /// The answer to a line, and `?` where the line asks nothing.
 pub fn answer(alloc: Global, line: &str) -> Result<String, AllocError> {
@@ -32,6 +15,9 @@ pub fn answer(alloc: Global, line: &str) -> Result<String, AllocError> {
     }
     if let Some(hex) = line.strip_prefix("fault ") {
         return fault_of(alloc, hex);
+    }
+    if let Some(words) = line.strip_prefix("run ") {
+        return run_of(alloc, words);
     }
     if let Some(hex) = line.strip_prefix("decimal ") {
         return number_of(alloc, Reading::Decimal, hex);
@@ -86,32 +72,13 @@ fn divided(alloc: Global, a: Frac, b: Frac) -> Result<String, AllocError> {
     value_or_leaves(alloc, a.div(b))
 }
 
-/// A fraction as it is printed.
-pub fn fraction_text(alloc: Global, value: Frac) -> Result<String, AllocError> {
-    let value = Shown { value };
-    format!(in alloc; "{value}")
-}
-
 fn value_or_leaves(alloc: Global, answer: Result<Frac, Leaves>) -> Result<String, AllocError> {
     match answer {
         Ok(value) => fraction_text(alloc, value),
         Err(leaves) => {
-            let word = op_word(leaves.op);
-            let left = Shown { value: leaves.left };
-            let right = Shown {
-                value: leaves.right,
-            };
-            format!(in alloc; "leaves {word} {left} {right}")
+            let operation = leaves_text(alloc, leaves)?;
+            format!(in alloc; "leaves {operation}")
         }
-    }
-}
-
-fn op_word(op: Op) -> &'static str {
-    match op {
-        Op::Add => "add",
-        Op::Sub => "sub",
-        Op::Mul => "mul",
-        Op::Div => "div",
     }
 }
 

@@ -19,14 +19,22 @@ fn told(alloc: Global, text: &[u8]) -> Result<String, AllocError> {
     match tokens(alloc, text) {
         Ok(tokens) => match parse(alloc, text, tokens.as_slice()) {
             Ok(_) => String::from_str(alloc, "ok"),
-            Err(fault) => fault_line(alloc, &fault),
+            Err(fault) => parse_line(alloc, &fault),
         },
-        Err(LexFault::BadByte(at)) => placed(alloc, at, "byte"),
-        Err(LexFault::Memory) => String::from_str(alloc, "memory"),
+        Err(fault) => lex_line(alloc, fault),
     }
 }
 
-fn fault_line(alloc: Global, fault: &ParseFault) -> Result<String, AllocError> {
+/// The line of a text that has no tokens.
+pub fn lex_line(alloc: Global, fault: LexFault) -> Result<String, AllocError> {
+    match fault {
+        LexFault::BadByte(at) => placed(alloc, at, "byte"),
+        LexFault::Memory => String::from_str(alloc, "memory"),
+    }
+}
+
+/// The line of a text whose tokens have no tree.
+pub fn parse_line(alloc: Global, fault: &ParseFault) -> Result<String, AllocError> {
     match fault {
         ParseFault::Expected(at, what) => expected(alloc, *at, *what),
         ParseFault::Number(at) => placed(alloc, *at, "number"),

@@ -1,5 +1,5 @@
-use crate::answer::fraction_text;
 use crate::hex::bytes_of;
+use crate::shown::fraction_text;
 use qm_frac::Frac;
 use qm_text::{NumberFault, read_decimal, read_frac, read_whole};
 use std::alloc::{AllocError, Global};

@@ -2,17 +2,20 @@ use Rattle.std.proofs.Common.{◌∙◌, refl}
 use Rattle.bench.proofs.PlainGames.{plain-sound}
 use Rattle.bench.proofs.games.game.Goals as goal
 
-pub new-requires-4 : goal.new-requires-4
-new-requires-4 c =
-    plain-sound _
+pub new-requires-3 : goal.new-requires-3
+new-requires-3 c =
+    plain-sound c.args.universals _
     (record {
+      some_universals = c.requires.universals;
       many_vars = c.in_ok-variables.ensures.many;
       plain_vars = c.in_ok-variables.ensures.plain;
+      universal_vars = c.in_ok-variables.ensures.universal;
       wholes = refl;
       many_rows = c.in_ok-rows.ensures.many;
       plain_rows = c.in_ok-rows.ensures.plain;
-      urows = c.new.ensures;
-      terms = c.new-3.ensures ∙ c.new-2.ensures.items;
+      few_urows = c.requires.few;
+      plain_urows = c.requires.urows;
+      terms = c.new-2.ensures ∙ c.new.ensures.items;
       constant = refl;
       scale = refl;
     })

@@ -1,6 +1,10 @@
 use Rattle.std.proofs.Common.{◌≡◌, length, All}
-use Rattle.bench.specs.Games.{IsPlain}
+use Rattle.bench.specs.Games.{AreUniversal, IsPlain}
 use Rattle.bench.proofs.games.variables.Given as goal
 
-abbrev pub invariant-loop : goal.invariant-loop
-invariant-loop l = record { many : length l.vars ≡ l.counter; plain : All IsPlain l.vars }
+abbrev pub invariant-loop-number : goal.invariant-loop-number
+invariant-loop-number l = record {
+  many : length l.vars ≡ l.number;
+  plain : All IsPlain l.vars;
+  universal : AreUniversal l.universals l.vars;
+}

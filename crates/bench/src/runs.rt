@@ -1,0 +1,118 @@
+ghost use Rattle.std.specs.Prelude.{◌<◌, ◌^◌, Any, Ok, length};
+ghost use Rattle.qm_lex.specs.Texts.{AreTokens};
+ghost use Rattle.qm_model.specs.Boxes.{IsBox, IsEmptyRange};
+ghost use Rattle.qm_parse.specs.Parsing.{IsParsed};
+
+use crate::drawn::text_of;
+use crate::texts::MOST;
+use qm_game::{Bx, Game, has_empty, whole_box};
+use qm_io::{List, Memory};
+use qm_lex::{Token, tokens};
+use qm_normal::{normal, trees_of_texts_are_in_order};
+use qm_parse::{Ast, parse};
+use qm_simplex::{LpEnd, LpFault, solve_lp};
+use std::alloc::Global;
+
+/// How runs end.
+#[derive(Clone, Copy)]
+pub enum Ending {
+    Best,
+    Void,
+    Leaves,
+    None,
+}
+
+impl Ending {
+    pub fn word(self) -> &'static str {
+        match self {
+            Ending::Best => "best",
+            Ending::Void => "void",
+            Ending::Leaves => "leaves",
+            Ending::None => "none",
+        }
+    }
+}
+
+/// How a run ends, and after how many pivots.
+#[derive(Clone, Copy)]
+pub struct Ended {
+    pub ending: Ending,
+    pub pivots: u64,
+}
+
+impl Ended {
+    fn new(ending: Ending, pivots: u64) -> Ended {
+        Ended { ending, pivots }
+    }
+}
+
+/// So many runs at the root of the problem of so many variables that the seed decides.
+#[derive(Clone, Copy)]
+pub struct Runs {
+    size: u32,
+    seed: u32,
+    times: u32,
+}
+
+impl Runs {
+    pub fn read(size: &str, seed: &str, times: &str) -> Option<Runs> {
+        Some(Runs {
+            size: size.parse::<u32>().ok()?,
+            seed: seed.parse::<u32>().ok()?,
+            times: times.parse::<u32>().ok()?,
+        })
+    }
+
+    /// How the last run ends; `None` where there is no run, or no such problem.
+    pub fn last(self, alloc: Global) -> Result<Ended, Memory> {
+        let text = text_of(alloc, self.size, self.seed).map_err(|_| Memory)?;
+        match game_of(alloc, &text) {
+            Some(game) => last_on(alloc, &game, self.times),
+            None => Ok(Ended::new(Ending::None, 0)),
+        }
+    }
+}
+
+// The game that the text states; none where it states none, or memory runs out.
+fn game_of(alloc: Global, text: &[u8]) -> Option<Game> {
+    if text.len() > MOST {
+        return None;
+    }
+    let tokens = tokens(alloc, text).ok()?;
+    let ast = parse(alloc, text, tokens.as_slice()).ok()?;
+    game_of_tree(alloc, text, tokens.as_slice(), &ast)
+}
+
+fn game_of_tree(alloc: Global, text: &[u8], tokens: &[Token], ast: &Ast) -> Option<Game>
+    requires short { length text.now < 2 ^ 31 }
+    requires tokens { AreTokens text.now tokens.now }
+    requires ast { IsParsed text.now tokens.now (Ok ast.now) }
+{
+    trees_of_texts_are_in_order();
+    normal(alloc, ast).ok()
+}
+
+fn last_on(alloc: Global, game: &Game, times: u32) -> Result<Ended, Memory> {
+    let bx = whole_box(alloc, game)?;
+    let mut ended = Ended::new(Ending::None, 0);
+    if has_empty(&bx) {
+        return Ok(ended);
+    }
+    for _ in 0..times {
+        ended = ended_on(alloc, game, &bx)?;
+    }
+    Ok(ended)
+}
+
+fn ended_on(alloc: Global, game: &Game, bx: &Bx) -> Result<Ended, Memory>
+    requires bx { IsBox game.now.vars bx.now }
+    requires full { Any IsEmptyRange bx.now → ⊥ }
+{
+    let cuts = List::new(alloc);
+    match solve_lp(alloc, game, cuts.as_slice(), bx) {
+        Ok(LpEnd::Best { pivots, .. }) => Ok(Ended::new(Ending::Best, pivots)),
+        Ok(LpEnd::Void { pivots, .. }) => Ok(Ended::new(Ending::Void, pivots)),
+        Err(LpFault::Leaves(run)) => Ok(Ended::new(Ending::Leaves, run.pivots.len() as u64)),
+        Err(LpFault::Memory) => Err(Memory),
+    }
+}
