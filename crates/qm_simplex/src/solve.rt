@@ -82,7 +82,7 @@ fn end_of(
 }
 
 /// Solves the linear relaxation of the box by the lexicographic dual simplex method. `Leaves`, exactly where an
-/// operation of the run leaves the range.
+/// operation of the run leaves the range; `Memory`, where there is none for the tableau, the pivots or the answer.
 #[tactic(auto, using(crate::proofs::RightEnds::run_told, crate::proofs::RightEnds::right_told, crate::proofs::RightEnds::short_told, crate::proofs::RightEnds::good_last, crate::proofs::RightEnds::leaving_told))]
 pub fn solve_lp(alloc: Global, game: &Game, cuts: &[Row], bx: &Bx) -> Result<LpEnd, LpFault>
     requires cuts { All (IsRowOver game.now.vars) cuts.now }
