@@ -1,5 +1,4 @@
-use crate::hex::bytes_of;
-use crate::shown::fraction_text;
+use probe_words::{bytes_of, fraction_text};
 use qm_frac::Frac;
 use qm_text::{NumberFault, read_decimal, read_frac, read_whole};
 use std::alloc::{AllocError, Global};

@@ -1,5 +1,5 @@
 use Rattle.qm_model.specs.Boxes.{IsBox}
-use Rattle.probe.proofs.boxes.box_of_ranges.Given as goal
+use Rattle.probe_games.proofs.boxes.box_of_ranges.Given as goal
 
 abbrev pub invariant-loop-var : goal.invariant-loop-var
 invariant-loop-var l =

@@ -1,4 +1,4 @@
-use crate::shown::{fraction_text, leaves_text};
+use probe_words::{fraction_text, leaves_text};
 use qm_frac::Frac;
 use qm_game::RowId;
 use qm_simplex::{LeavePlace, LpEnd, LpFault, RunLeaves};

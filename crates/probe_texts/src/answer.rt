@@ -1,9 +1,8 @@
 use crate::faults::fault_of;
 use crate::numbers::{Reading, number_of};
 use crate::question::{Question, over, read_question};
-use crate::runs::run_of;
-use crate::shown::{fraction_text, leaves_text};
 use crate::tokens::tokens_of;
+use probe_words::{fraction_text, leaves_text};
 use qm_frac::{Frac, Leaves};
 use std::alloc::{AllocError, Global};
 use std::cmp::Ordering;
@@ -15,9 +14,6 @@ pub fn answer(alloc: Global, line: &str) -> Result<String, AllocError> {
     }
     if let Some(hex) = line.strip_prefix("fault ") {
         return fault_of(alloc, hex);
-    }
-    if let Some(words) = line.strip_prefix("run ") {
-        return run_of(alloc, words);
     }
     if let Some(hex) = line.strip_prefix("decimal ") {
         return number_of(alloc, Reading::Decimal, hex);

@@ -2,6 +2,9 @@ ghost use Rattle.std.specs.Prelude.{◌<◌, IfSome};
 
 use std::alloc::{AllocError, Global};
 
+/// The most bytes of a text that has tokens.
+pub const MOST: usize = 0x7FFF_FFFF;
+
 /// The bytes that are written by two digits each; `None` where something else is written.
 pub fn bytes_of(alloc: Global, hex: &[u8]) -> Result<Option<Vec<u8>>, AllocError> {
     let mut bytes = Vec::new(alloc);

@@ -1,29 +1,6 @@
-use crate::hex::bytes_of;
-use crate::tokens::MOST;
-use qm_lex::{LexFault, Place, tokens};
-use qm_parse::{ParseFault, What, parse};
+use qm_lex::{LexFault, Place};
+use qm_parse::{ParseFault, What};
 use std::alloc::{AllocError, Global};
-
-/// `ok`, or the line of the first fault of the text whose bytes are written in hexadecimal.
-pub fn fault_of(alloc: Global, hex: &str) -> Result<String, AllocError> {
-    match bytes_of(alloc, hex.as_bytes())? {
-        Some(text) => told(alloc, &text),
-        None => String::from_str(alloc, "?"),
-    }
-}
-
-fn told(alloc: Global, text: &[u8]) -> Result<String, AllocError> {
-    if text.len() > MOST {
-        return String::from_str(alloc, "?");
-    }
-    match tokens(alloc, text) {
-        Ok(tokens) => match parse(alloc, text, tokens.as_slice()) {
-            Ok(_) => String::from_str(alloc, "ok"),
-            Err(fault) => parse_line(alloc, &fault),
-        },
-        Err(fault) => lex_line(alloc, fault),
-    }
-}
 
 /// The line of a text that has no tokens.
 pub fn lex_line(alloc: Global, fault: LexFault) -> Result<String, AllocError> {

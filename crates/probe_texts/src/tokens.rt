@@ -1,9 +1,6 @@
-use crate::hex::bytes_of;
+use probe_words::{MOST, bytes_of};
 use qm_lex::{LexFault, Token, tokens};
 use std::alloc::{AllocError, Global};
-
-/// The most bytes of a text that has tokens.
-pub const MOST: usize = 0x7FFF_FFFF;
 
 /// The tokens of the text whose bytes are written in hexadecimal: the kind, the start and the end of each; or the
 /// place of the first byte that begins none.
