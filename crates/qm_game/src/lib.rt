@@ -7,6 +7,7 @@ mod dead;
 mod ends;
 mod forms;
 mod goal;
+mod place;
 mod product;
 
 pub use bx::{Bx, has_empty, narrow, put, whole_box};
@@ -14,6 +15,7 @@ pub use dead::row_dead;
 pub use ends::{least, most};
 pub use forms::{form_at, row_holds};
 pub use goal::Goal;
+pub use place::Place;
 pub use qm_model::{Game, Player, Problem, Range, Row, RowId, Sense, Term, Terms, Var};
 
 #[cfg(test)]
