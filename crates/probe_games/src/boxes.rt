@@ -1,8 +1,8 @@
-ghost use Rattle.std.specs.Prelude.{Any, IfOk, IsTrue, List, max, unsigned_abs, ◌≤◌};
+ghost use Rattle.std.specs.Prelude.{Any, IfOk, List};
 ghost use Rattle.qm_model.specs.declared.variable.Var.{Var};
-ghost use Rattle.qm_model.specs.Boxes.{IsBox, IsEmptyRange, IsInside};
+ghost use Rattle.qm_model.specs.Boxes.{IsBox, IsEmptyRange};
 
-use qm_game::{Bx, Game, Range, has_empty, narrow, whole_box};
+use qm_game::{Bx, Game, Range, has_empty, try_narrow, whole_box};
 use qm_io::Memory;
 use std::alloc::Global;
 
@@ -61,30 +61,11 @@ fn box_of_ranges(alloc: Global, game: &Game, words: &str) -> Result<Bx, NoBox>
 fn narrow_one(bx: &mut Bx, var: u32, to: Range) -> Result<(), NoBox>
     ensures { (vars : List Var) → IsBox vars bx.old → IsBox vars bx.new }
 {
-    match bx.as_slice().get(var as usize) {
-        Some(range) if is_inside(to, *range) => {
-            narrow(bx, var, to);
-            Ok(())
-        }
-        _ => Err(NoBox::Outside),
+    if try_narrow(bx, var, to) {
+        Ok(())
+    } else {
+        Err(NoBox::Outside)
     }
-}
-
-fn is_inside(inner: Range, outer: Range) -> bool
-    ensures { IsTrue result → IsInside inner outer }
-{
-    outer.low <= inner.low
-        && inner.high <= outer.high
-        && is_near(inner.low, outer)
-        && is_near(inner.high, outer)
-}
-
-// Whether the end is no farther from 0 than the farther end of the range.
-fn is_near(end: i64, range: Range) -> bool
-    ensures { IsTrue result → unsigned_abs end ≤ max (unsigned_abs range.low) (unsigned_abs range.high) }
-{
-    end.unsigned_abs() <= range.low.unsigned_abs()
-        || end.unsigned_abs() <= range.high.unsigned_abs()
 }
 
 fn read_range(word: &str) -> Option<Range> {

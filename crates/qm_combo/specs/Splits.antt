@@ -7,7 +7,8 @@ use Rattle.qm_model.specs.Plays.{is_universal}
 use Rattle.qm_trees.specs.declared.rule.Rule.TheVariants as rule
 use Rattle.qm_trees.specs.declared.empty.EmptyPart.{EmptyPart}
 use Rattle.qm_trees.specs.Verdicts.{Verdict, Broken}
-use Rattle.qm_trees.specs.Ranges.{range_at, judge_parts}
+use Rattle.qm_model.specs.Ranges.{range_at}
+use Rattle.qm_trees.specs.Ranges.{judge_parts}
 use Rattle.qm_trees.specs.EmptyJudgement.{range_of, below_of, judge_empty}
 
 -- what stands below a part, once the variable at the depth has its range and these variables may still be split

@@ -4,17 +4,18 @@ ghost use Rattle.qm_model.specs.Plays.{IsPlay, whole_vars};
 ghost use Rattle.qm_trees.specs.EmptyJudgement.{judge_empty, range_of};
 ghost use Rattle.qm_trees.specs.EmptyRight.{IsRightEmpty};
 ghost use Rattle.qm_trees.specs.Picks.{Fit};
-ghost use Rattle.qm_trees.specs.Ranges.{judge_each, judge_parts, range_at};
+ghost use Rattle.qm_model.specs.Ranges.{range_at};
+ghost use Rattle.qm_trees.specs.Ranges.{judge_each, judge_parts};
 ghost use Rattle.qm_trees.specs.Verdicts.{answer_of};
 ghost use Rattle.qm_cover.specs.Places.{IsBoxPlace};
 ghost use Rattle.qm_cover.specs.Steps.{first_of};
 ghost use Rattle.qm_combo.specs.Splits.{judge_here, judge_part};
 
 use crate::void::closes_empty;
-use qm_cover::{after, count_is_right, follows, is_for_all, is_last, range_in, start};
+use qm_cover::{count_is_right, follows, is_last};
 use qm_frac::Leaves;
 use qm_game::{Bx, Range, Var};
-use qm_model::Game;
+use qm_model::{Game, after, is_for_all, range_in, start};
 use qm_trees::{Empty, EmptyPart};
 
 /// Whether the tree shows that no universal play has its values in the box: each rule is met, in the order of the

@@ -12,7 +12,8 @@ use Rattle.qm_model.specs.declared.variable.Var.{Var}
 use Rattle.qm_model.specs.declared.game.Problem.{Problem}
 use Rattle.qm_model.specs.Boxes.{IsInside}
 use Rattle.qm_model.proofs.BoxLaws.{IsBox-set}
-use Rattle.qm_trees.specs.Ranges.{range_at, single, is_in, follows_on, same}
+use Rattle.qm_model.specs.Ranges.{range_at, single, is_in}
+use Rattle.qm_trees.specs.Ranges.{follows_on, same}
 use Rattle.qm_trees.proofs.Lines.{le_of_test}
 use Rattle.qm_trees.proofs.Moves.{between_of}
 use Rattle.qm_cover.proofs.Places.{next_place, same_place}

@@ -10,7 +10,7 @@ mod goal;
 mod place;
 mod product;
 
-pub use bx::{Bx, has_empty, narrow, put, whole_box};
+pub use bx::{Bx, has_empty, is_inside, narrow, put, try_narrow, whole_box};
 pub use dead::row_dead;
 pub use ends::{least, most};
 pub use forms::{form_at, row_holds};

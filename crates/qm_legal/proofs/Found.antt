@@ -16,7 +16,7 @@ use Rattle.qm_game.specs.First.{HasNone}
 use Rattle.qm_trees.specs.declared.empty.Empty.{Empty, Split, Close}
 use Rattle.qm_trees.specs.declared.empty.EmptyPart.{EmptyPart}
 use Rattle.qm_trees.specs.EmptyJudgement.{range_of, below_of, some_universal_empty}
-use Rattle.qm_trees.specs.Ranges.{range_at, single}
+use Rattle.qm_model.specs.Ranges.{range_at, single}
 use Rattle.qm_legal.specs.Queries.{IsQuery}
 use Rattle.qm_legal.specs.Runs.{IsOneOf}
 use Rattle.qm_legal.specs.Search.{IsFound, IsFoundPart, IsSearchPlace, Shows}

@@ -14,7 +14,7 @@ use Rattle.qm_game.specs.First.{HasNone}
 use Rattle.qm_trees.specs.declared.empty.Empty.{Empty}
 use Rattle.qm_trees.specs.declared.empty.EmptyPart.{EmptyPart}
 use Rattle.qm_trees.specs.EmptyJudgement.{range_of, below_of}
-use Rattle.qm_trees.specs.Ranges.{range_at, single}
+use Rattle.qm_model.specs.Ranges.{range_at, single}
 use Rattle.qm_cover.proofs.BoxPlaces.{Next, next_of, narrowed}
 use Rattle.qm_legal.specs.Search.{AreSet, IsCompleted, IsFound, IsPart, IsSearchPlace, Shows}
 use Rattle.qm_legal.specs.Runs.{IsOneOf}

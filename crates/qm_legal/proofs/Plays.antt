@@ -24,7 +24,7 @@ use Rattle.qm_model.proofs.Players.{by_player, is_for_all, not_universal, univer
 use Rattle.qm_model.proofs.UncertaintyRows.{IsUniversalAt, universal_at_take, universal_is_whole}
 use Rattle.qm_game.specs.First.{HasNone}
 use Rattle.qm_trees.specs.Picks.{Fit, HoldsOnBox}
-use Rattle.qm_trees.specs.Ranges.{single}
+use Rattle.qm_model.specs.Ranges.{single}
 use Rattle.qm_trees.proofs.EmptyLines.{fine_of_right}
 use Rattle.qm_trees.proofs.EmptySound.{no_play}
 use Rattle.qm_trees.proofs.Lines.{answer_of_fine}

@@ -24,7 +24,7 @@ use Rattle.qm_trees.specs.Entries.{AreEntries, Combination, weighted_rows}
 use Rattle.qm_trees.specs.EmptyJudgement.{Layer, range_of, below_of, all_uncertain, judge_close, judge_empty, some_universal_empty}
 use Rattle.qm_trees.specs.EmptyRight.{IsCloseInRange, IsEmptyInRange, IsRightClose, IsRightEmpty, IsRightSplit, IsSplitInRange}
 use Rattle.qm_trees.specs.Evaluation.{value_of}
-use Rattle.qm_trees.specs.Ranges.{range_at}
+use Rattle.qm_model.specs.Ranges.{range_at}
 use Rattle.qm_trees.specs.Verdicts.{answer_of}
 use Rattle.qm_trees.proofs.EmptyLines.{right_of_fine}
 use Rattle.qm_trees.proofs.Lines.{fine_of_answer}

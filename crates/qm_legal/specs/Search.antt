@@ -11,7 +11,7 @@ use Rattle.qm_trees.specs.declared.empty.Empty.{Empty}
 use Rattle.qm_trees.specs.declared.empty.EmptyPart.{EmptyPart}
 use Rattle.qm_trees.specs.EmptyJudgement.{range_of, below_of}
 use Rattle.qm_trees.specs.EmptyRight.{IsRightEmpty, IsEmptyInRange}
-use Rattle.qm_trees.specs.Ranges.{range_at}
+use Rattle.qm_model.specs.Ranges.{range_at}
 use Rattle.qm_cover.specs.Places.{IsBoxPlace}
 
 -- each universal variable has one value in its range

@@ -2,10 +2,10 @@ ghost use Rattle.std.specs.Prelude.{◌≡◌, ◌<◌, ◌^◌, ◌↔◌, All,
 ghost use Rattle.qm_model.specs.Boxes.{IsBox, IsDead, IsInside};
 ghost use Rattle.qm_model.specs.Sound.{IsRowOver};
 ghost use Rattle.qm_game.specs.First.{HasNone, IsFirst};
-ghost use Rattle.qm_trees.specs.Ranges.{range_at};
+ghost use Rattle.qm_model.specs.Ranges.{range_at};
 
-use qm_cover::range_in;
 use qm_game::{Bx, Game, Range, Row, least};
+use qm_model::range_in;
 
 /// Whether the row is dead over the box.
 fn is_dead(game: &Game, row: &Row, bx: &Bx) -> bool

@@ -2,7 +2,7 @@ ghost use Rattle.std.specs.Prelude.{◌≡◌, ◌<◌, ◌≤ℤ◌, IfOk, IsSo
 ghost use Rattle.qm_model.specs.declared.variable.Var.{Var};
 ghost use Rattle.qm_model.specs.Boxes.{IsBox, IsDead};
 ghost use Rattle.qm_trees.specs.EmptyJudgement.{below_of, range_of};
-ghost use Rattle.qm_trees.specs.Ranges.{range_at};
+ghost use Rattle.qm_model.specs.Ranges.{range_at};
 ghost use Rattle.qm_legal.specs.Runs.{IsOneOf};
 ghost use Rattle.qm_legal.specs.Search.{IsPart};
 

@@ -2,12 +2,12 @@ ghost use Rattle.std.specs.Prelude.{◌≡◌, ◌<◌, ◌≤ℤ◌, ◌<ℤ◌
 ghost use Rattle.qm_math.specs.Ranges.{IsBetween};
 ghost use Rattle.qm_model.specs.Boxes.{IsBox, IsDead};
 ghost use Rattle.qm_model.specs.Sound.{IsRowOver};
-ghost use Rattle.qm_trees.specs.Ranges.{range_at, single};
+ghost use Rattle.qm_model.specs.Ranges.{range_at, single};
 ghost use Rattle.qm_legal.specs.Runs.{range_to};
 
 use crate::dead::is_dead_with;
-use qm_cover::range_in;
 use qm_game::{Bx, Game, Range, Row};
+use qm_model::range_in;
 
 /// Whether the range has values from `next` on.
 pub fn is_left(next: i128, covered: Range) -> bool

@@ -1,15 +1,15 @@
 ghost use Rattle.std.specs.Prelude.{◌≡◌, ◌<◌, ◌∷◌, IfOk, length};
 ghost use Rattle.qm_model.specs.declared.variable.Player.TheVariants.{Exists, All as Universal};
-ghost use Rattle.qm_trees.specs.Ranges.{range_at};
+ghost use Rattle.qm_model.specs.Ranges.{range_at};
 ghost use Rattle.qm_legal.specs.Runs.{IsOneOf};
 ghost use Rattle.qm_legal.specs.Search.{IsFound, IsFoundPart, IsSearchPlace};
 
 use crate::dead::dead_row;
 use crate::part::{dead_part, part_of};
 use crate::run::{is_left, single_at};
-use qm_cover::{after, is_for_all, range_in, start};
 use qm_game::{Bx, Game, Range, Var};
 use qm_io::Memory;
+use qm_model::{after, is_for_all, range_in, start};
 use qm_trees::{Empty, EmptyPart};
 use sqlite_items::Items;
 use std::alloc::Global;

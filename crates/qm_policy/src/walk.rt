@@ -8,7 +8,8 @@ ghost use Rattle.qm_trees.specs.Reaching.{PolicyReaches};
 ghost use Rattle.qm_trees.specs.declared.policy.Policy.{out-Policy};
 ghost use Rattle.qm_trees.specs.declared.policy.Below.TheOpen as node;
 ghost use Rattle.qm_trees.specs.Verdicts.{answer_of};
-ghost use Rattle.qm_trees.specs.Ranges.{judge_each, judge_parts, range_at};
+ghost use Rattle.qm_model.specs.Ranges.{range_at};
+ghost use Rattle.qm_trees.specs.Ranges.{judge_each, judge_parts};
 ghost use Rattle.qm_trees.specs.EmptyJudgement.{judge_empty};
 ghost use Rattle.qm_trees.specs.PolicyJudgement.{judge_end, judge_move, judge_policy, range_of};
 ghost use Rattle.qm_cover.specs.Places.{IsBoxPlace};
@@ -17,11 +18,10 @@ ghost use Rattle.qm_cover.specs.Steps.{first_of};
 
 use crate::leaf::passes;
 use qm_combo::test_empty;
-use qm_cover::{
-    after, contains, count_is_right, follows, is_for_all, is_last, range_in, single, start,
-};
+use qm_cover::{count_is_right, follows, is_last};
 use qm_frac::{Frac, Leaves};
 use qm_game::{Bx, Game, Range, Var};
+use qm_model::{after, contains, is_for_all, range_in, single, start};
 use qm_trees::{Below, Empty, Policy, PolicyPart};
 
 /// Whether the policy reaches the value from each prefix in the box that universal plays have: each rule is met, in

@@ -7,7 +7,7 @@ use Rattle.qm_model.specs.declared.range.Range.{Range}
 use Rattle.qm_model.specs.declared.variable.Var.{Var}
 use Rattle.qm_model.specs.Plays.{is_universal}
 use Rattle.qm_trees.specs.Picks.{fit, fixed, picked}
-use Rattle.qm_trees.specs.Ranges.{is_in, range_at, single}
+use Rattle.qm_model.specs.Ranges.{is_in, range_at, single}
 
 -- no values fix nothing
 fixed_none : (xs : List Var) (bx : List Range) → fixed xs bx [] ≡ bx

@@ -14,7 +14,7 @@ use Rattle.qm_trees.specs.declared.refutation.Refute.TheVariants.{rolls-Over}
 use Rattle.qm_trees.specs.declared.refutation.Refute.TheViews.{out-roll-Refute}
 use Rattle.qm_trees.specs.declared.refutation.Refute.TheOpen as node
 use Rattle.qm_trees.specs.declared.refutation.RefutePart.{RefutePart}
-use Rattle.qm_trees.specs.Ranges.{is_in}
+use Rattle.qm_model.specs.Ranges.{is_in}
 use Rattle.qm_trees.specs.Picks.{fit}
 use Rattle.qm_trees.specs.Entries.{AreEntries, Combination, weighted_rows}
 use Rattle.qm_trees.specs.Closing.{closing}

@@ -5,12 +5,12 @@ ghost use Rattle.qm_model.specs.Linear.{HasVarsBelow};
 ghost use Rattle.qm_model.specs.Plays.{is_universal};
 ghost use Rattle.qm_model.specs.Sizes.{reach_in_box, row_size};
 ghost use Rattle.qm_trees.specs.Picks.{fit, fixed, holds_on_box, meet_on_box, picked, universal_count};
-ghost use Rattle.qm_trees.specs.Ranges.{is_in, range_at};
+ghost use Rattle.qm_model.specs.Ranges.{is_in, range_at};
 ghost use Rattle.qm_cover.specs.Places.{IsBoxPlace};
 
 use crate::completion::fits_pick;
-use qm_cover::{is_for_all, range_in, single};
 use qm_game::{Bx, Game, Row, Var, most};
+use qm_model::{is_for_all, range_in, single};
 
 /// Whether the row holds at the worst ends of the box.
 fn holds_on_box(row: &Row, bx: &Bx) -> bool

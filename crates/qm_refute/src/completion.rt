@@ -1,10 +1,10 @@
 ghost use Rattle.std.specs.Prelude.{◌≡◌, ◌+◌, ◌<◌, ◌≤◌, ◌&&◌, ◌==◌, drop, length, pos, slice_index_or};
 ghost use Rattle.qm_model.specs.Plays.{is_universal};
 ghost use Rattle.qm_trees.specs.Picks.{fit, universal_count};
-ghost use Rattle.qm_trees.specs.Ranges.{is_in, range_at};
+ghost use Rattle.qm_model.specs.Ranges.{is_in, range_at};
 
-use qm_cover::{contains, is_for_all, range_in};
 use qm_game::{Range, Var};
+use qm_model::{contains, is_for_all, range_in};
 
 /// How many of the variables are universal.
 fn universal_count(vars: &[Var]) -> usize

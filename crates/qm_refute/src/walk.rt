@@ -11,7 +11,8 @@ ghost use Rattle.qm_trees.specs.declared.refutation.Refute.TheOpen as node;
 ghost use Rattle.qm_trees.specs.BoxPoints.{BeginIn};
 ghost use Rattle.qm_trees.specs.Cuts.{HoldCuts};
 ghost use Rattle.qm_trees.specs.Verdicts.{answer_of};
-ghost use Rattle.qm_trees.specs.Ranges.{judge_each, range_at};
+ghost use Rattle.qm_model.specs.Ranges.{range_at};
+ghost use Rattle.qm_trees.specs.Ranges.{judge_each};
 ghost use Rattle.qm_trees.specs.RefuteJudgement.{below_of, judge_end, judge_move, judge_refute, range_of};
 ghost use Rattle.qm_trees.specs.RefuteRight.{IsRightRefutation};
 ghost use Rattle.qm_cover.specs.Places.{IsBoxPlace};
@@ -20,9 +21,10 @@ ghost use Rattle.qm_cover.specs.Steps.{first_of};
 use crate::allowed::can_pick;
 use crate::closing::closes_here;
 use crate::counts::counts_over;
-use qm_cover::{after, follows, is_last, range_in, single, start};
+use qm_cover::{follows, is_last};
 use qm_frac::Leaves;
 use qm_game::{Bx, Game, Goal, Range, Row, Var};
+use qm_model::{after, range_in, single, start};
 use qm_trees::{Refute, RefutePart};
 
 /// Whether the refutation shows that the goal can't be reached from any legal prefix of this length whose values lie

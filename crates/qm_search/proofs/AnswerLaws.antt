@@ -16,7 +16,7 @@ use Rattle.qm_trees.specs.declared.policy.Below.TheViews.{out-roll-Policy}
 use Rattle.qm_trees.specs.declared.policy.Below.TheOpen as policy_node
 use Rattle.qm_trees.specs.declared.policy.PolicyPart.{PolicyPart}
 use Rattle.qm_trees.specs.declared.refutation.Refute.{Refute}
-use Rattle.qm_trees.specs.Ranges.{range_at, single}
+use Rattle.qm_model.specs.Ranges.{range_at, single}
 use Rattle.qm_trees.specs.PolicyJudgement.{BelowLayer, range_of, below_of}
 use Rattle.qm_trees.specs.PolicyRight as policy_right
 use Rattle.qm_trees.specs.PolicyRight.{IsRightPolicy, IsPolicyInRange}

@@ -18,7 +18,7 @@ use Rattle.qm_trees.specs.declared.refutation.Refute.TheVariants.{rolls-Over}
 use Rattle.qm_trees.specs.declared.refutation.Refute.TheViews.{out-roll-Refute}
 use Rattle.qm_trees.specs.declared.refutation.Refute.TheOpen as node
 use Rattle.qm_trees.specs.declared.refutation.RefutePart.{RefutePart}
-use Rattle.qm_trees.specs.Ranges.{range_at, single}
+use Rattle.qm_model.specs.Ranges.{range_at, single}
 use Rattle.qm_trees.specs.PolicyRight as policy_right
 use Rattle.qm_trees.specs.PolicyRight.{IsRightPolicy, IsPolicyInRange}
 use Rattle.qm_trees.specs.RefuteJudgement.{range_of, below_of}

@@ -11,7 +11,7 @@ use Rattle.qm_model.specs.Legal.{universal_part}
 use Rattle.qm_model.specs.Plays.{AreWithin, BeginWithin, HoldsAt, IsPlay, IsWithin, is_universal, spread, universal_vars, whole_vars}
 use Rattle.qm_model.proofs.Legality.{both_within, parts_within}
 use Rattle.qm_model.proofs.Players.{is_for_all, not_universal}
-use Rattle.qm_trees.specs.Ranges.{single}
+use Rattle.qm_model.specs.Ranges.{single}
 use Rattle.qm_legal.specs.Queries.{low_of, set_values}
 use Rattle.qm_search.specs.Places.{Completes, IsSearchBox, first_of}
 use Rattle.qm_search.proofs.SearchPlaces.{next_of}

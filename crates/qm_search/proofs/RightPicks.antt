@@ -21,7 +21,7 @@ use Rattle.qm_model.proofs.Forms.{sum_over-each}
 use Rattle.qm_model.proofs.Players.{by_player, is_for_all, not_universal}
 use Rattle.qm_model.proofs.UncertaintyRows.{IsUniversalAt, length-spread, universal_at_take, universal_is_whole}
 use Rattle.qm_trees.specs.Picks.{Fit, HoldsOnBox, fixed, picked}
-use Rattle.qm_trees.specs.Ranges.{single}
+use Rattle.qm_model.specs.Ranges.{single}
 use Rattle.qm_trees.specs.RefuteRight.{IsRightPick}
 use Rattle.qm_trees.proofs.PickedPlays.{between_itself, fit_at, fit_fixed, fit_next, fit_skip, next_fits, skip_fits, within_fits}
 use Rattle.qm_legal.specs.Queries.{low_of, set_values}

@@ -14,7 +14,7 @@ use Rattle.qm_model.specs.Boxes.{IsInside, bounds_of, whole_box_of}
 use Rattle.qm_model.specs.Plays.{IsWithin, whole_vars}
 use Rattle.qm_model.specs.Sound.{IsSound}
 use Rattle.qm_model.proofs.BoxLaws.{IsBox-set, whole_box_is_box}
-use Rattle.qm_trees.specs.Ranges.{range_at, single}
+use Rattle.qm_model.specs.Ranges.{range_at, single}
 use Rattle.qm_cover.proofs.Places as cover
 use Rattle.qm_legal.specs.Search.{AreSet}
 use Rattle.qm_legal.specs.Queries.{AreFree, IsQuery}

@@ -8,7 +8,7 @@ use Rattle.qm_model.specs.Goals.{Any, Above}
 use Rattle.qm_model.specs.Plays.{whole_vars}
 use Rattle.qm_trees.specs.declared.policy.Policy.{Policy}
 use Rattle.qm_trees.specs.declared.refutation.Refute.{Refute}
-use Rattle.qm_trees.specs.Ranges.{single}
+use Rattle.qm_model.specs.Ranges.{single}
 use Rattle.qm_trees.specs.PolicyJudgement.{BelowLayer, range_of, below_of}
 use Rattle.qm_legal.specs.Search.{Shows}
 use Rattle.qm_search.specs.declared.answer.Answer.{Answer}

@@ -5,7 +5,7 @@ use Rattle.qm_model.specs.declared.range.Range.{Range}
 use Rattle.qm_model.specs.declared.variable.Var.{Var}
 use Rattle.qm_model.specs.declared.game.Problem.{Problem}
 use Rattle.qm_model.specs.Goals.{Goal, Any, Above}
-use Rattle.qm_trees.specs.Ranges.{single}
+use Rattle.qm_model.specs.Ranges.{single}
 use Rattle.qm_trees.specs.RefuteJudgement.{range_of, below_of}
 use Rattle.qm_search.specs.declared.choices.Best.{Best}
 use Rattle.qm_search.specs.declared.choices.Choices.{Choices}

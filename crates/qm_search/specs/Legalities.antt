@@ -3,7 +3,7 @@ use Rattle.std.specs.Prelude.{◌≡◌, ℕ, ◌+◌, ℤ, List, slice_set}
 use Rattle.qm_model.specs.declared.range.Range.{Range}
 use Rattle.qm_model.specs.declared.game.Problem.{Problem}
 use Rattle.qm_model.specs.Plays.{whole_vars}
-use Rattle.qm_trees.specs.Ranges.{single}
+use Rattle.qm_model.specs.Ranges.{single}
 use Rattle.qm_legal.specs.declared.legality.Legality.{Legality}
 use Rattle.qm_legal.specs.declared.legality.Legality.TheVariants.{Completion, Illegal}
 use Rattle.qm_legal.specs.Search.{Shows}

@@ -1,7 +1,7 @@
 -- Parts of one value each.
 use Rattle.std.specs.Prelude.{◌≡◌, ℤ, pos, ◌+ℤ◌, ◌≤ℤ◌, ◌<ℤ◌, List, [], ◌∷◌}
 use Rattle.qm_model.specs.declared.range.Range.{Range}
-use Rattle.qm_trees.specs.Ranges.{single}
+use Rattle.qm_model.specs.Ranges.{single}
 
 -- the ranges of the values from `low` up to before `next`, in order
 abbrev pub AreSingles : ℤ → ℤ → List Range → Type 0

@@ -4,7 +4,7 @@ ghost use Rattle.qm_model.specs.declared.range.Range.{Range};
 ghost use Rattle.qm_model.specs.declared.variable.Player.TheVariants.{All as Universal};
 ghost use Rattle.qm_model.specs.declared.variable.Var.{Var};
 ghost use Rattle.qm_model.specs.Goals.{Goal};
-ghost use Rattle.qm_trees.specs.Ranges.{single};
+ghost use Rattle.qm_model.specs.Ranges.{single};
 ghost use Rattle.qm_trees.specs.RefuteRight.{IsRightPick};
 ghost use Rattle.qm_search.specs.Answers.{IsAnswer};
 ghost use Rattle.qm_search.specs.Outcomes.{IsOutcome, Refutes};

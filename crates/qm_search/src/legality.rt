@@ -4,10 +4,10 @@ ghost use Rattle.qm_model.specs.Plays.{IsWithin};
 ghost use Rattle.qm_search.specs.Legalities.{IsNextLegality};
 ghost use Rattle.qm_search.specs.Places.{IsSearchPlace, first_of};
 
-use qm_cover::{range_in, single};
 use qm_game::{Bx, Game, Var};
 use qm_io::{List, Memory};
 use qm_legal::{Legality, legal};
+use qm_model::{range_in, single};
 use std::alloc::Global;
 
 /// Whether the value goes on as the known completion does: it begins with it, or nothing but the bounds is asked of

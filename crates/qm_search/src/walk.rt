@@ -1,7 +1,7 @@
 ghost use Rattle.std.specs.Prelude.{◌≡◌, ◌∷◌, ◌+◌, IfOk, slice_set};
 ghost use Rattle.qm_model.specs.Plays.{IsWithin};
 ghost use Rattle.qm_model.specs.declared.variable.Player.TheVariants.{Exists, All as Universal};
-ghost use Rattle.qm_trees.specs.Ranges.{single};
+ghost use Rattle.qm_model.specs.Ranges.{single};
 ghost use Rattle.qm_search.specs.Answers.{IsAnswer};
 ghost use Rattle.qm_search.specs.Outcomes.{IsOutcome};
 ghost use Rattle.qm_search.specs.Places.{Completes, IsSearchBox, IsSearchPlace, first_of};
@@ -12,10 +12,10 @@ use crate::choices::Choices;
 use crate::leaf::outcome_at_end;
 use crate::legality::legality;
 use crate::outcome::Outcome;
-use qm_cover::{is_for_all, range_in, single};
 use qm_game::{Bx, Game, Var};
 use qm_io::Memory;
 use qm_legal::Legality;
+use qm_model::{is_for_all, range_in, single};
 use std::alloc::Global;
 
 /// The outcome where these variables are still to be set, and these values complete those of the universal variables

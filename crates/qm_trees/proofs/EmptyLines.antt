@@ -24,7 +24,8 @@ use Rattle.qm_trees.specs.Entries.{Combination, IsPositive, all_positive, Weight
 use Rattle.qm_trees.specs.Evaluation.{right_side, least_combined, value_of}
 use Rattle.qm_trees.specs.Closing.{is_empty_range}
 use Rattle.qm_trees.specs.Verdicts.{Verdict, Broken, line}
-use Rattle.qm_trees.specs.Ranges.{range_at, judge_parts}
+use Rattle.qm_model.specs.Ranges.{range_at}
+use Rattle.qm_trees.specs.Ranges.{judge_parts}
 use Rattle.qm_trees.specs.Passing.{IsFine}
 use Rattle.qm_trees.specs.EmptyJudgement.{Layer, range_of, below_of, all_uncertain, some_universal_empty, is_void, contradicts, closes_empty, judge_close, judge_end, judge_split, judge_empty}
 use Rattle.qm_trees.specs.EmptyRight.{HasEmptyUniversal, IsRightClose, IsRightEnd, IsRightSplit, IsRightEmpty, IsCloseInRange, IsEndInRange, IsSplitInRange, IsEmptyInRange}

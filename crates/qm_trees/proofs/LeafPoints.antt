@@ -32,7 +32,7 @@ use Rattle.qm_model.specs.Points.{Meets, AreWithinOver, HoldsOver, continuous_va
 use Rattle.qm_model.specs.Sound.{IsSound, IsRowOver}
 use Rattle.qm_model.proofs.Forms.{sum_over-each}
 use Rattle.qm_trees.specs.Evaluation.{zero as zero_fraction, least_end_by, greatest_end_by}
-use Rattle.qm_trees.specs.Ranges.{range_at}
+use Rattle.qm_model.specs.Ranges.{range_at}
 use Rattle.qm_trees.specs.Leaves.{value_at, AreInBounds, sum_at, HoldsAtWorst, least_objective, IsRightLeaf}
 use Rattle.qm_trees.specs.Reaching.{HasValue, point_of}
 use Rattle.qm_trees.proofs.CombinationSound.{quotient_of-at_most}

@@ -7,7 +7,7 @@ use Rattle.qm_math.specs.Ranges.{IsBetween}
 use Rattle.qm_model.specs.declared.range.Range.{Range}
 use Rattle.qm_trees.specs.declared.rule.Rule.{Rule}
 use Rattle.qm_trees.specs.Verdicts.{Verdict, Broken}
-use Rattle.qm_trees.specs.Ranges.{is_in}
+use Rattle.qm_model.specs.Ranges.{is_in}
 use Rattle.qm_trees.specs.Passing.{IsFine}
 use Rattle.qm_trees.proofs.Lines.{le_of_test, test_of_le}
 

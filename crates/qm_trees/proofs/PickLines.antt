@@ -15,7 +15,7 @@ use Rattle.qm_model.specs.declared.game.Problem.{Problem}
 use Rattle.qm_model.specs.Boxes.{greatest_value}
 use Rattle.qm_model.specs.Plays.{is_universal}
 use Rattle.qm_model.specs.Wins.{MatchPlayer}
-use Rattle.qm_trees.specs.Ranges.{range_at, is_in}
+use Rattle.qm_model.specs.Ranges.{range_at, is_in}
 use Rattle.qm_trees.specs.Picks.{universal_count, FitNext, Fit, HoldsOnBox, holds_on_box, picked, fit, meet_on_box}
 use Rattle.qm_trees.specs.RefuteRight.{IsRightPick}
 use Rattle.qm_trees.proofs.Lines.{le_of_test, test_of_le, never}

@@ -23,7 +23,7 @@ use Rattle.qm_model.proofs.LegalMoves.{rest-universal, universal_part-existentia
 use Rattle.qm_model.proofs.Players.{is_for_all, not_universal}
 use Rattle.qm_trees.specs.declared.policy.Policy.{Policy, out-Policy}
 use Rattle.qm_trees.specs.declared.policy.Below.TheOpen as node
-use Rattle.qm_trees.specs.Ranges.{range_at, single}
+use Rattle.qm_model.specs.Ranges.{range_at, single}
 use Rattle.qm_trees.specs.BoxPoints.{BeginIn}
 use Rattle.qm_trees.specs.Picks.{Fit}
 use Rattle.qm_trees.specs.PolicyJudgement.{Layer, BelowLayer, range_of, below_of}

@@ -23,7 +23,7 @@ use Rattle.qm_trees.specs.BoxPoints.{BeginIn}
 use Rattle.qm_trees.specs.Cuts.{HoldCuts}
 use Rattle.qm_trees.specs.Entries.{Combination}
 use Rattle.qm_trees.specs.Picks.{Fit, fixed, picked}
-use Rattle.qm_trees.specs.Ranges.{range_at, single}
+use Rattle.qm_model.specs.Ranges.{range_at, single}
 use Rattle.qm_trees.specs.Reaching.{HasValue}
 use Rattle.qm_trees.specs.RefuteJudgement.{Head, Layer, range_of, below_of}
 use Rattle.qm_trees.specs.RefuteRight.{IsRightClose, IsRightEnd, IsRightMove, IsRightPick, IsRightRefutation}

@@ -5,7 +5,8 @@ use mir.Syntax.{w128}
 use mir.Val.{SFits}
 use Rattle.qm_model.specs.Boxes.{IsInside}
 use Rattle.qm_trees.specs.EmptyJudgement.{range_of}
-use Rattle.qm_trees.specs.Ranges.{judge_each, range_at}
+use Rattle.qm_model.specs.Ranges.{range_at}
+use Rattle.qm_trees.specs.Ranges.{judge_each}
 use Rattle.qm_trees.specs.Verdicts.{answer_of}
 use Rattle.qm_cover.specs.Places.{IsBoxPlace}
 use Rattle.qm_cover.proofs.Places.{put_back}

@@ -1,6 +1,6 @@
 use Rattle.std.proofs.Common.{◌≡◌, ◌≤ℤ◌, ◌-ℤ◌, slice_set, unsigned_abs}
 use Rattle.qm_model.specs.Boxes.{IsDead}
-use Rattle.qm_trees.specs.Ranges.{range_at}
+use Rattle.qm_model.specs.Ranges.{range_at}
 use Rattle.qm_legal.specs.Runs.{range_to}
 use Rattle.qm_legal.proofs.run.dead_run.Given as goal
 

@@ -1,5 +1,5 @@
 use Rattle.std.proofs.Common.{◌≡◌, ◌+◌, ◌*◌, length, unsigned_abs, ◌-ℤ◌, ◌+ℤ◌, pos}
-use Rattle.qm_trees.specs.Ranges.{range_at}
+use Rattle.qm_model.specs.Ranges.{range_at}
 use Rattle.qm_legal.proofs.Places.{Reached}
 use Rattle.qm_legal.proofs.search.+search.Given as goal
 

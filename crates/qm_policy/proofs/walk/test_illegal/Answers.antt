@@ -2,7 +2,7 @@ use Rattle.std.proofs.Common.{pos, subst}
 use Rattle.std.proofs.lemmas.Option.{get_or_from_slice_get}
 use Rattle.qm_model.specs.Boxes.{IsInside}
 use Rattle.qm_model.proofs.BoxLaws.{IsBox-set}
-use Rattle.qm_trees.specs.Ranges.{single}
+use Rattle.qm_model.specs.Ranges.{single}
 use Rattle.qm_cover.proofs.Places.{put_back}
 use Rattle.qm_policy.proofs.walk.test_illegal.Goals as goal
 

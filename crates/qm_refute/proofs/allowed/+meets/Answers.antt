@@ -6,7 +6,7 @@ use mir.Val.{SFits}
 use Rattle.qm_model.specs.Boxes.{IsInside}
 use Rattle.qm_model.specs.Plays.{is_universal}
 use Rattle.qm_trees.specs.Picks.{fit, fixed, meet_on_box}
-use Rattle.qm_trees.specs.Ranges.{range_at, single}
+use Rattle.qm_model.specs.Ranges.{range_at, single}
 use Rattle.qm_cover.proofs.Places.{put_back}
 use Rattle.qm_cover.proofs.BoxPlaces.{next_of, narrowed, value_inside}
 use Rattle.qm_refute.proofs.Picking.{fits_later, fits_next, needs_value, put_first, skipped, taken}

@@ -7,7 +7,8 @@ use Rattle.qm_model.specs.declared.range.Range.{Range}
 use Rattle.qm_model.specs.Boxes.{IsInside}
 use Rattle.qm_trees.specs.declared.refutation.RefutePart.{RefutePart}
 use Rattle.qm_trees.specs.Verdicts.{answer_of}
-use Rattle.qm_trees.specs.Ranges.{judge_each, range_at}
+use Rattle.qm_model.specs.Ranges.{range_at}
+use Rattle.qm_trees.specs.Ranges.{judge_each}
 use Rattle.qm_trees.specs.RefuteJudgement.{below_of, judge_refute, range_of}
 use Rattle.qm_cover.proofs.Places.{put_back}
 use Rattle.qm_cover.proofs.PartSteps.{step_is, part_leaves, part_fails, part_passes, passed_follows}

@@ -1,7 +1,7 @@
 use Rattle.std.proofs.Common.{◌+◌, refl, sym, subst, set}
 use Rattle.std.proofs.lemmas.Int.{to_z-of_z}
 use mir.Syntax.{w64}
-use Rattle.qm_trees.specs.Ranges.{single}
+use Rattle.qm_model.specs.Ranges.{single}
 use Rattle.qm_cover.proofs.Places.{put_back}
 use Rattle.qm_search.specs.Places.{Completes}
 use Rattle.qm_search.proofs.Completions.{begins_here, completes_known}

@@ -2,7 +2,7 @@ use Rattle.std.proofs.Common.{rules, refl, sym, ◌≡◌, ◌+◌, arith, subst
 use Rattle.std.proofs.lemmas.Int.{ints, to_z-of_z}
 use mir.Syntax.{w64}
 use mir.Val.{SFits}
-use Rattle.qm_trees.specs.Ranges.{range_at, single}
+use Rattle.qm_model.specs.Ranges.{range_at, single}
 use Rattle.qm_cover.proofs.Places.{put_back}
 use Rattle.qm_search.specs.Answers.{AreAnswers, IsAnswer}
 use Rattle.qm_search.specs.Choices.{AreChoices}

@@ -1,7 +1,7 @@
 ghost use Rattle.std.specs.Prelude.{◌≡◌};
 ghost use Rattle.qm_model.specs.Plays.{is_universal};
 
-use qm_model::{Player, Var};
+use crate::{Player, Var};
 
 /// Whether the universal player sets the variable.
 pub fn is_for_all(var: &Var) -> bool
