@@ -18,6 +18,3 @@ pub use laws::{
     checked_values_are_exact, checked_values_are_fractions, gcd_is_greatest, quotient_times_divisor,
 };
 pub use leaves::{Leaves, Op};
-
-#[cfg(test)]
-mod tests;

@@ -27,6 +27,3 @@ pub use laws::{
     rows_of_a_text_have_no_constants, the_objective_is_what_is_written,
     the_problem_is_what_is_written, trees_of_texts_are_in_order,
 };
-
-#[cfg(test)]
-mod tests;

@@ -39,6 +39,3 @@ pub use laws::{
 pub use marks::Marks;
 pub use names::Names;
 pub use parser::parse;
-
-#[cfg(test)]
-mod tests;

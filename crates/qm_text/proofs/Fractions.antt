@@ -23,8 +23,8 @@ over n d = record { num = n; den = d }
 pub gcd_one : (n : ℕ) → gcd_of n 1 ≡ 1
 gcd_one n = gcd_from_IsGcd n 1 1 (one-dvd n, one-dvd 1, λ d p q. q)
 
-not_both : (word : List ℕ) (z : ℤ) (a : Fraction) → SpellsWhole word z → ¬ SpellsQuotient word a
-not_both word z a whole q = slash_stands q.above q.below (subst HasNoSlash q.parts (whole_no_slash word z whole))
+whole_is_no_quotient : (word : List ℕ) (z : ℤ) (a : Fraction) → SpellsWhole word z → ¬ SpellsQuotient word a
+whole_is_no_quotient word z a whole q = slash_stands q.above q.below (subst HasNoSlash q.parts (whole_no_slash word z whole))
 
 quotient_one : (word : List ℕ) (v w : Fraction) → SpellsQuotient word v → SpellsQuotient word w → v ≡ w
 quotient_one word v w p q =
@@ -35,8 +35,8 @@ quotient_one word v w p q =
 
 pub fraction_one : (word : List ℕ) (v w : Fraction) → SpellsFraction word v → SpellsFraction word w → v ≡ w
 fraction_one word v w (inl p) (inl q) = ap₂ (λ (n : ℤ) (d : ℕ). record { num = n; den = d }) (whole_one word v.num w.num p.0 q.0) (p.1 ∙ sym q.1)
-fraction_one word v w (inl p) (inr q) = absurd (not_both word v.num w p.0 q.0)
-fraction_one word v w (inr p) (inl q) = absurd (not_both word w.num v q.0 p.0)
+fraction_one word v w (inl p) (inr q) = absurd (whole_is_no_quotient word v.num w p.0 q.0)
+fraction_one word v w (inr p) (inl q) = absurd (whole_is_no_quotient word w.num v q.0 p.0)
 fraction_one word v w (inr p) (inr q) = quotient_one word v w p.0 q.0
 
 -- ---- a whole number
