@@ -11,6 +11,3 @@ mod sweep;
 pub use laws::a_row_narrows_exactly_so_far;
 pub use propagation::propagate;
 pub use reason::{Propagated, Reason};
-
-#[cfg(test)]
-mod tests;
