@@ -21,6 +21,3 @@ pub use laws::{
 };
 pub use leaves_at::LeavesAt;
 pub use tableau::Tableau;
-
-#[cfg(test)]
-mod tests;
