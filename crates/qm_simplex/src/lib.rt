@@ -19,6 +19,3 @@ pub use end_laws::{
 pub use exact_laws::runs_are_exact;
 pub use run_laws::{runs_are_short, runs_end, runs_have_one_answer, runs_keep_tableaus_good};
 pub use solve::solve_lp;
-
-#[cfg(test)]
-mod tests;
