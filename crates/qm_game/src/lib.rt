@@ -17,6 +17,3 @@ pub use forms::{form_at, row_holds};
 pub use goal::Goal;
 pub use place::Place;
 pub use qm_model::{Game, Player, Problem, Range, Row, RowId, Sense, Term, Terms, Var};
-
-#[cfg(test)]
-mod tests;

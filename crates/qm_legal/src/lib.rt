@@ -14,6 +14,3 @@ mod shown;
 pub use legality::Legality;
 pub use qm_trees::{Empty, EmptyPart};
 pub use query::legal;
-
-#[cfg(test)]
-mod tests;

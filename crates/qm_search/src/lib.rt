@@ -12,6 +12,3 @@ mod outcome;
 mod walk;
 
 pub use ending::solve;
-
-#[cfg(test)]
-mod tests;

@@ -31,10 +31,10 @@ use Rattle.qm_simplex.specs.Multipliers.{closing_entries, entries_below, entry_f
 abbrev pub IsBehind : RowId → Entry → Type 0
 IsBehind row e = IsBefore e.row row
 
-pub one_more : (es : List Entry) (f : Entry) → AreEntries es → All (IsBehind f.row) es → IsPositive f → AreEntries (es ++ f ∷ [])
-one_more [] f are before more = more
-one_more (e ∷ []) f are before more = (are, All-head (IsBehind f.row) e [] before, more)
-one_more (e ∷ g ∷ es) f are before more = (are.0, are.1, one_more (g ∷ es) f are.2 (All-tail (IsBehind f.row) e (g ∷ es) before) more)
+pub entries_with_last : (es : List Entry) (f : Entry) → AreEntries es → All (IsBehind f.row) es → IsPositive f → AreEntries (es ++ f ∷ [])
+entries_with_last [] f are before more = more
+entries_with_last (e ∷ []) f are before more = (are, All-head (IsBehind f.row) e [] before, more)
+entries_with_last (e ∷ g ∷ es) f are before more = (are.0, are.1, entries_with_last (g ∷ es) f are.2 (All-tail (IsBehind f.row) e (g ∷ es) before) more)
 
 -- ---- the names of slacks come one after the other
 later : (rows urows m n : ℕ) → m < n → (a b c d : Bool) → nat_lt m rows ≡ a → nat_lt n rows ≡ b → nat_lt (m - rows) urows ≡ c → nat_lt (n - rows) urows ≡ d
@@ -83,7 +83,7 @@ module _ (name : ℕ → RowId) (by : ℕ → Fraction) (some : (n : ℕ) → Is
           nothing_more [] are = are
           nothing_more (e ∷ []) are = are
           nothing_more (e ∷ f ∷ es) are = (are.0, are.1, nothing_more (f ∷ es) are.2)
-      by_test false e = one_more es (record { row = name n; by = by n }) are before ((some n).0, above_zero (by n) (some n).1 e)
+      by_test false e = entries_with_last es (record { row = name n; by = by n }) are before ((some n).0, above_zero (by n) (some n).1 e)
 
   pub are_entries : (n : ℕ) → AreEntries (entries_below name by n)
   are_entries zero = tt

@@ -217,9 +217,9 @@ module _ (ts us : List (List Fraction)) (l m : List Fraction) (e : AllZip (AllZi
       by_test false false q both later g = later best bh g
 
 -- ---- the choice
-behind : (row : List Fraction) (j : ℕ) → entry_of (drop 1 row) j ≡ entry_of row (1 + j)
-behind [] j = refl
-behind (t ∷ ts) j = let e : 1 + j ≡ suc j = omega arith in sym (ap (λ (n : ℕ). entry_of (t ∷ ts) n) e)
+entry_of-drop : (row : List Fraction) (j : ℕ) → entry_of (drop 1 row) j ≡ entry_of row (1 + j)
+entry_of-drop [] j = refl
+entry_of-drop (t ∷ ts) j = let e : 1 + j ≡ suc j = omega arith in sym (ap (λ (n : ℕ). entry_of (t ∷ ts) n) e)
 
 den_behind : (row : List Fraction) → All HasPositiveDen row → All HasPositiveDen (drop 1 row)
 den_behind [] d = d
@@ -245,5 +245,5 @@ choice_same t u named e td ud h =
         let md = row_at_den u.rows s ud in
         let le = same_row_at t.rows u.rows s e.rows in
         let steps = next-ok (entering_column t.rows l 1 None (drop 1 l)) (λ best. Ok (choice_of s best)) named g in
-        let same = entering_same t.rows u.rows l m e.rows le td ud ld md (drop 1 l) (drop 1 m) 1 None steps.0 (numbers_behind l m le) (den_behind l ld) (den_behind m md) (behind l) tt steps.1 in
+        let same = entering_same t.rows u.rows l m e.rows le td ud ld md (drop 1 l) (drop 1 m) 1 None steps.0 (numbers_behind l m le) (den_behind l ld) (den_behind m md) (entry_of-drop l) tt steps.1 in
         ap (λ (best : Option ℕ). choice_of s best) same ∙ same_choice (choice_of s steps.0) named steps.2
