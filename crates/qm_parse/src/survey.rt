@@ -10,7 +10,7 @@ use qm_lex::Place;
 use std::alloc::Global;
 
 /// What is known of the variables of a text by the places that were walked over so far.
-#[derive(Debug, Drop)]
+#[derive(Drop)]
 pub(crate) struct Survey {
     /// The numbers of their names.
     pub used: Marks,
