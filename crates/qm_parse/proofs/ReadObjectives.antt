@@ -30,9 +30,6 @@ pub record SignedDraft (ast : Ast) (negative : Bool) (draft : Draft) : Type 0 wh
   pub terms_are : draft.terms ≡ []
   pub sign_is : draft.negative ≡ negative
 
-pub without_signs : (ast : Ast) (draft : Draft) → IsBetween ast draft → SignedDraft ast false draft
-without_signs ast draft is = record { ast_is = is.ast_is; terms_are = is.terms_are; sign_is = is.sign_is }
-
 pub signed_is : (ast : Ast) (odd : Bool) (draft : Draft) → IsBetween ast draft → SignedDraft ast odd (signed odd draft)
 unfolding signed
 signed_is ast odd draft is = record { ast_is = is.ast_is; terms_are = is.terms_are; sign_is = signed_negative odd draft is.sign_is }
