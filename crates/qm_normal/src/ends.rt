@@ -13,7 +13,7 @@ use std::alloc::Global;
 use std::cmp::Ordering;
 
 /// The last lower and the last upper value that BOUNDS gives each name.
-#[derive(Debug, Drop)]
+#[derive(Drop)]
 pub(crate) struct Ends {
     lower: Latest,
     upper: Latest,

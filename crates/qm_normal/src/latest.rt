@@ -7,7 +7,7 @@ use qm_io::{List, Memory};
 use std::alloc::Global;
 
 /// A value by the number of a name: the one that was set last, if any was.
-#[derive(Debug, Drop)]
+#[derive(Drop)]
 pub(crate) struct Latest {
     values: List<Option<Frac>>,
 }

@@ -7,7 +7,7 @@ use qm_parse::{AstTerm, Named};
 use std::alloc::Global;
 
 /// The places of variables in game order, by the numbers of their names.
-#[derive(Debug, Drop)]
+#[derive(Drop)]
 pub(crate) struct Places {
     places: List<Option<u32>>,
 }

@@ -6,7 +6,7 @@ use qm_parse::{Ast, Marks};
 use std::alloc::Global;
 
 /// Which names stand in GENERALS, in BINARIES and in ALL.
-#[derive(Debug, Drop)]
+#[derive(Drop)]
 pub(crate) struct Roles {
     generals: Marks,
     binaries: Marks,
