@@ -11,7 +11,6 @@ pub mod Widths
 pub mod Answers
 pub mod Sections
 pub mod Bounds
-pub mod Turned
 pub mod SumSteps
 pub mod Numbers
 pub mod Trees

@@ -10,6 +10,7 @@ mod laws;
 mod limits;
 mod names;
 mod objective;
+mod order;
 mod places;
 mod problem;
 mod roles;

@@ -13,13 +13,13 @@ use crate::scaling::narrow_row;
 use crate::totals::totals;
 use qm_frac::Frac;
 use qm_io::{List, Memory};
-use qm_model::{Row, Term, Terms, Var};
+use qm_model::{Row, Sense, Term, Terms, Var};
 use qm_parse::{Ast, AstRow, AstTerm, Named, Relation};
 use smallvec::SmallVec;
 use std::alloc::Global;
 
 /// Which of a text's two sections of rows.
-#[derive(Clone, Copy, Debug)]
+#[derive(Clone, Copy)]
 pub(crate) enum Section {
     Rows,
     Uncertain,
@@ -40,7 +40,8 @@ fn normal_row(
     ensures row { IfOk result (λ found. found ≡ normal_row vars.now order.now terms.now right) }
     ensures narrow { IfOk result (λ found. IfSome found IsNarrowRow) }
 {
-    let Some(sums) = totals(alloc, order, places, terms)? else {
+    // Only the objective of MINIMIZE is negated.
+    let Some(sums) = totals(alloc, order, places, Sense::Max, terms)? else {
         return Ok(None);
     };
     narrow_row(alloc, vars, &sums, right)

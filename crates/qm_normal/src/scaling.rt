@@ -154,9 +154,26 @@ pub(crate) fn narrow_row(
     ensures row { IfOk result (λ found. found ≡ narrow_row vars.now sums.now right) }
     ensures narrow { IfOk result (λ found. IfSome found IsNarrowRow) }
 {
-    let Some(d) = denominator(sums, right) else {
-        return Ok(None);
-    };
+    match denominator(sums, right) {
+        Some(d) => narrow_row_times(alloc, vars, d, sums, right),
+        None => Ok(None),
+    }
+}
+
+/// The same, given the least common denominator.
+pub(crate) fn narrow_row_times(
+    alloc: Global,
+    vars: &[Var],
+    d: u128,
+    sums: &[Frac],
+    right: Frac,
+) -> Result<Option<Row>, Memory>
+    requires common { d ≡ common_denominator (right ∷ sums.now) }
+    requires small { d ≤ 2 ^ 126 }
+    requires few { length sums.now < 2 ^ 32 }
+    ensures row { IfOk result (λ found. found ≡ narrow_row vars.now sums.now right) }
+    ensures narrow { IfOk result (λ found. IfSome found IsNarrowRow) }
+{
     let Some(right) = times(d, right) else {
         return Ok(None);
     };
