@@ -9,7 +9,7 @@ pub mod NearEnds
 pub mod PlaceTables
 pub mod TermPlaces
 pub mod SumsSoFar
-pub mod TurnedTerms
+pub mod MaximisedTerms
 pub mod TermSteps
 pub mod Denominators
 pub mod RowSizes

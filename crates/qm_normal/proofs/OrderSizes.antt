@@ -8,7 +8,7 @@ use Rattle.qm_parse.specs.declared.ast.Named.{Named}
 use Rattle.qm_parse.specs.Checks.{name_fault}
 use Rattle.qm_parse.specs.Known.{AreNamesBelow, HasNumbersBelow}
 use Rattle.qm_normal.specs.Limits.{variables_fault}
-use Rattle.qm_normal.specs.Places.{AreApart}
+use Rattle.qm_normal.specs.PlaceSteps.{AreApart}
 use Rattle.qm_normal.specs.Variables.{continuous_names, game_order, is_whole, var_of, vars_of}
 use Rattle.qm_parse.proofs.NameLaws.{NamesRight-from_None}
 use Rattle.qm_normal.proofs.NormalVars.{few_vars}

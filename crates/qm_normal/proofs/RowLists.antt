@@ -13,7 +13,7 @@ use Rattle.qm_normal.specs.declared.fault.NormalFault.TheVariants as fault
 use Rattle.qm_normal.specs.declared.fault.Which.{Which}
 use Rattle.qm_normal.specs.declared.fault.Which.TheVariants as which
 use Rattle.qm_normal.specs.declared.bound_rows.Bounds.{Bounds}
-use Rattle.qm_normal.specs.Bounds.{bounds_of, rows_of_both}
+use Rattle.qm_normal.specs.BoundSteps.{bounds_of, rows_of_both}
 use Rattle.qm_normal.specs.Normal.{bind, bound_rows_from, narrow, rows_from, with_front}
 use Rattle.qm_normal.specs.Ends.{lower_end, upper_end}
 use Rattle.qm_normal.specs.Rows.{bound_row, high_row, low_row, normal_row, related}

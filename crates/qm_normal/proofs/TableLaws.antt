@@ -11,10 +11,10 @@ use Rattle.qm_model.specs.declared.variable.Player.TheVariants.{Exists, All as U
 use Rattle.qm_model.specs.declared.variable.Var.{Var}
 use Rattle.qm_parse.specs.declared.ast.Ast.{Ast}
 use Rattle.qm_parse.specs.declared.ast.Named.{Named}
-use Rattle.qm_normal.specs.Bounds.{bounds_by, bounds_of}
+use Rattle.qm_normal.specs.BoundSteps.{bounds_by, bounds_of}
 use Rattle.qm_normal.specs.Ends.{greater_of, is_binary, lesser_of, lower_end, upper_end}
 use Rattle.qm_normal.specs.Limits.{fits_domain}
-use Rattle.qm_normal.specs.Tables.{IsEndsOf, IsGameOrderOf, IsRolesOf, fits_by, lower_by, universal_by, upper_by, value_by, var_by, whole_by}
+use Rattle.qm_normal.specs.TableSteps.{IsEndsOf, IsGameOrderOf, IsRolesOf, fits_by, lower_by, universal_by, upper_by, value_by, var_by, whole_by}
 use Rattle.qm_normal.specs.Variables.{continuous_names, is_universal, is_whole, name_of, var_of, whole_names}
 use Rattle.qm_normal.specs.declared.ends.Ends.{Ends}
 use Rattle.qm_normal.specs.declared.order.GameOrder.{GameOrder}

@@ -1,4 +1,4 @@
--- One step of adding terms. No definition of rows cites this.
+-- One step of adding terms. No public clause cites this.
 use Rattle.std.specs.Prelude.{ℕ, pos, List, Option, Some, None, slice_index_or, slice_set, if◌then◌else◌}
 use Rattle.std.specs.Option.{option_map}
 use Rattle.std.specs.Result.{result_ok}
@@ -20,6 +20,6 @@ abbrev pub plus_constant : Fraction → AstTerm → Option Fraction
 plus_constant sum term = if is_constant term then result_ok (added sum term.coef) else Some sum
 
 -- a term as it is maximised
-abbrev pub turned : Sense → AstTerm → AstTerm
-turned Max term = term
-turned Min term = record { coef = negated term.coef; name = term.name; at = term.at }
+abbrev pub maximised_term : Sense → AstTerm → AstTerm
+maximised_term Max term = term
+maximised_term Min term = record { coef = negated term.coef; name = term.name; at = term.at }

@@ -3,10 +3,10 @@ ghost use Rattle.qm_parse.specs.Known.{AreNamesBelow};
 ghost use Rattle.qm_normal.specs.declared.fault.NormalFault.TheVariants as fault;
 ghost use Rattle.qm_normal.specs.declared.fault.Which.TheVariants as which;
 ghost use Rattle.qm_normal.specs.Answers.{Gives};
-ghost use Rattle.qm_normal.specs.Bounds.{bounds_by, rows_of_both};
+ghost use Rattle.qm_normal.specs.BoundSteps.{bounds_by, rows_of_both};
 ghost use Rattle.qm_normal.specs.Normal.{bound_rows_from, with_front};
 ghost use Rattle.qm_normal.specs.Rows.{bound_row, high_row, low_row};
-ghost use Rattle.qm_normal.specs.Tables.{IsEndsOf, IsRolesOf};
+ghost use Rattle.qm_normal.specs.TableSteps.{IsEndsOf, IsRolesOf};
 ghost use Rattle.qm_normal.specs.Variables.{name_of, vars_of};
 
 use crate::ends::Ends;

@@ -1,7 +1,7 @@
 ghost use Rattle.std.specs.Prelude.{◌≡◌, [], ◌∷◌, None, IfOk, OnOk, if◌then◌else◌};
 ghost use Rattle.qm_math.specs.Fraction.{is_below};
 ghost use Rattle.qm_normal.specs.Ends.{greater_of, lesser_of, sets_lower};
-ghost use Rattle.qm_normal.specs.Tables.{IsEndsOf, Notes, lower_by, upper_by};
+ghost use Rattle.qm_normal.specs.TableSteps.{IsEndsOf, Notes, lower_by, upper_by};
 ghost use Rattle.qm_parse.specs.Checks.{sets_upper};
 
 use crate::latest::Latest;

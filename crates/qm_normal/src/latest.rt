@@ -1,6 +1,6 @@
 ghost use Rattle.std.specs.Prelude.{◌≡◌, ℕ, ◌<◌, ◌==◌, length, None, Some, OnOk, if◌then◌else◌};
 ghost use Rattle.qm_normal.specs.Ends.{later};
-ghost use Rattle.qm_normal.specs.Tables.{value_by};
+ghost use Rattle.qm_normal.specs.TableSteps.{value_by};
 
 use qm_frac::Frac;
 use qm_io::{List, Memory};

@@ -1,6 +1,6 @@
 ghost use Rattle.std.specs.Prelude.{◌≡◌, ◌<◌, ◌^◌, IfOk, length};
 ghost use Rattle.qm_normal.specs.Normal.{maximised, objective_from, scaled_objective};
-ghost use Rattle.qm_normal.specs.Places.{AreApart, IsPlacesOf};
+ghost use Rattle.qm_normal.specs.PlaceSteps.{AreApart, IsPlacesOf};
 
 use crate::places::Places;
 use crate::scaling::{denominator, narrow_row_times};

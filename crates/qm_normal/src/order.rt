@@ -1,5 +1,5 @@
 ghost use Rattle.std.specs.Prelude.{◌≡◌, ◌≤◌, ◌++◌, IfOk, OnOk, drop, filter, length};
-ghost use Rattle.qm_normal.specs.Tables.{IsGameOrderOf, IsRolesOf, kept_by};
+ghost use Rattle.qm_normal.specs.TableSteps.{IsGameOrderOf, IsRolesOf, kept_by};
 
 use crate::roles::Roles;
 use qm_io::{List, Memory};

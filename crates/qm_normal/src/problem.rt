@@ -4,9 +4,9 @@ ghost use Rattle.qm_parse.specs.Known.{HasNumbersBelow};
 ghost use Rattle.qm_parse.specs.declared.ast.Ast.{Ast};
 ghost use Rattle.qm_normal.specs.Answers.{Gives};
 ghost use Rattle.qm_normal.specs.Limits.{variables_fault};
-ghost use Rattle.qm_normal.specs.Normal.{objective_of, problem_form, problem_with, rows_of};
-ghost use Rattle.qm_normal.specs.Places.{AreApart, IsPlacesOf};
-ghost use Rattle.qm_normal.specs.Tables.{IsEndsOf, IsGameOrderOf, IsRolesOf};
+ghost use Rattle.qm_normal.specs.Normal.{objective_form, problem_form, problem_with, rows_of};
+ghost use Rattle.qm_normal.specs.PlaceSteps.{AreApart, IsPlacesOf};
+ghost use Rattle.qm_normal.specs.TableSteps.{IsEndsOf, IsGameOrderOf, IsRolesOf};
 ghost use Rattle.qm_normal.specs.Variables.{game_order, vars_of, whole_names};
 
 use crate::bound_rows::bound_rows;
@@ -25,7 +25,7 @@ use qm_parse::{Ast, Named};
 use std::alloc::Global;
 
 /// The rows of the text, and behind them those of exact bounds.
-#[tactic(auto, unfolding(crate::specs::Sections::rows_in, crate::specs::Normal::bind))]
+#[tactic(auto, unfolding(crate::specs::RowSteps::rows_in, crate::specs::Normal::bind))]
 fn rows(
     alloc: Global,
     ast: &Ast,
@@ -74,7 +74,7 @@ fn objective(
     requires places { IsPlacesOf order.now places.now }
     requires apart { AreApart order.now }
     requires few { length order.now < 2 ^ 31 }
-    ensures { Gives result (objective_of ast.now) }
+    ensures { Gives result (objective_form ast.now) }
 {
     let terms = ast.objective.as_slice();
     match objective_from(alloc, vars, order, places, ast.sense, terms)? {

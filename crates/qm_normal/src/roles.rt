@@ -1,5 +1,5 @@
 ghost use Rattle.std.specs.Prelude.{◌≡◌, IfOk};
-ghost use Rattle.qm_normal.specs.Tables.{IsRolesOf, binary_by, universal_by, whole_by};
+ghost use Rattle.qm_normal.specs.TableSteps.{IsRolesOf, binary_by, universal_by, whole_by};
 
 use qm_io::Memory;
 use qm_parse::{Ast, Marks};

@@ -1,11 +1,11 @@
 ghost use Rattle.std.specs.Prelude.{◌≡◌, ◌<◌, ◌^◌, ◌++◌, IfOk, IfSome, OnOk, length};
 ghost use Rattle.qm_normal.specs.Answers.{Gives};
 ghost use Rattle.qm_normal.specs.Normal.{rows_from};
-ghost use Rattle.qm_normal.specs.Places.{AreApart, IsPlacesOf};
+ghost use Rattle.qm_normal.specs.PlaceSteps.{AreApart, IsPlacesOf};
 ghost use Rattle.qm_normal.specs.Rows.{negated_row, normal_row, related};
-ghost use Rattle.qm_normal.specs.Sections.{part_of, rows_in};
+ghost use Rattle.qm_normal.specs.RowSteps.{part_of, rows_in};
 ghost use Rattle.qm_normal.specs.Variables.{game_order, vars_of};
-ghost use Rattle.qm_normal.specs.Widths.{IsNarrowRow};
+ghost use Rattle.qm_normal.specs.RowSteps.{IsNarrowRow};
 
 use crate::fault::{NormalFault, Which};
 use crate::places::Places;
@@ -87,7 +87,7 @@ fn add_related(
     }
 }
 
-#[tactic(auto, unfolding(crate::specs::Sections::part_of))]
+#[tactic(auto, unfolding(crate::specs::RowSteps::part_of))]
 fn part_of(section: Section, number: u32) -> Which
     ensures { result ≡ part_of section number }
 {
@@ -97,7 +97,7 @@ fn part_of(section: Section, number: u32) -> Which
     }
 }
 
-#[tactic(auto, unfolding(crate::specs::Sections::rows_in))]
+#[tactic(auto, unfolding(crate::specs::RowSteps::rows_in))]
 fn rows_in(section: Section, ast: &Ast) -> &[AstRow]
     ensures { result.now ≡ rows_in section ast.now }
 {

@@ -2,7 +2,7 @@ ghost use Rattle.std.specs.Prelude.{◌≡◌, ◌<◌, ◌≤◌, ◌*◌, ◌+
 ghost use Rattle.qm_model.specs.Sizes.{reach_in_vars, row_size};
 ghost use Rattle.qm_math.specs.Ranges.{reach};
 ghost use Rattle.qm_normal.specs.Rows.{common_denominator, common_multiple, narrow_row, nonzero_from, times};
-ghost use Rattle.qm_normal.specs.Widths.{IsNarrowRow};
+ghost use Rattle.qm_normal.specs.RowSteps.{IsNarrowRow};
 
 use qm_frac::{Frac, gcd};
 use qm_io::Memory;

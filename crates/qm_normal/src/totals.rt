@@ -1,9 +1,9 @@
 ghost use Rattle.std.specs.Prelude.{◌≡◌, ◌<◌, None, Some, IfOk, IfSome, MatchOption, length, if◌then◌else◌};
 ghost use Rattle.std.specs.Result.{result_ok};
 ghost use Rattle.qm_normal.specs.Normal.{maximised};
-ghost use Rattle.qm_normal.specs.Places.{AreApart, IsPlacesOf};
+ghost use Rattle.qm_normal.specs.PlaceSteps.{AreApart, IsPlacesOf};
 ghost use Rattle.qm_normal.specs.Rows.{is_constant, total, totals};
-ghost use Rattle.qm_normal.specs.SumSteps.{added_at, plus_constant, turned};
+ghost use Rattle.qm_normal.specs.SumSteps.{added_at, plus_constant, maximised_term};
 
 use crate::places::Places;
 use qm_frac::Frac;
@@ -31,8 +31,8 @@ fn add_at(sums: &mut [Frac], place: Option<u32>, coef: Frac) -> bool
 }
 
 /// A term as it is maximised: that of MINIMIZE is negated.
-fn turned(sense: Sense, term: AstTerm) -> AstTerm
-    ensures { result ≡ turned sense term }
+fn maximised_term(sense: Sense, term: AstTerm) -> AstTerm
+    ensures { result ≡ maximised_term sense term }
 {
     match sense {
         Sense::Max => term,
@@ -59,7 +59,7 @@ pub(crate) fn totals(
 {
     let mut sums = vec![in alloc; Frac::whole(0); order.len()]?;
     for term in terms {
-        let term = turned(sense, *term);
+        let term = maximised_term(sense, *term);
         if !add_at(&mut sums, places.place_of(&term), term.coef) {
             return Ok(None);
         }
@@ -86,7 +86,7 @@ pub(crate) fn total_of_constants(sense: Sense, terms: &[AstTerm]) -> Option<Frac
 {
     let mut sum = Frac::whole(0);
     for term in terms {
-        let term = turned(sense, *term);
+        let term = maximised_term(sense, *term);
         match plus_constant(sum, &term) {
             Some(more) => sum = more,
             None => return None,

@@ -1,7 +1,7 @@
 ghost use Rattle.std.specs.Prelude.{◌≡◌, ◌≤◌, ◌^◌, unsigned_abs, All, IsTrue, None, IfOk, map, if◌then◌else◌};
 ghost use Rattle.qm_model.specs.declared.variable.Player.TheVariants.{Exists, All as Universal};
 ghost use Rattle.qm_normal.specs.Limits.{fits_domain, variables_fault};
-ghost use Rattle.qm_normal.specs.Tables.{IsEndsOf, IsRolesOf, high_by, low_by, universal_by, var_by};
+ghost use Rattle.qm_normal.specs.TableSteps.{IsEndsOf, IsRolesOf, high_by, low_by, universal_by, var_by};
 ghost use Rattle.qm_normal.specs.Variables.{game_order, vars_of};
 
 use crate::ends::Ends;

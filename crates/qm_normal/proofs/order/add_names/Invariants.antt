@@ -1,6 +1,6 @@
 use Rattle.std.proofs.Common.{◌≡◌, ◌++◌, take}
 use Rattle.std.specs.List.{filter}
-use Rattle.qm_normal.specs.Tables.{kept_by}
+use Rattle.qm_normal.specs.TableSteps.{kept_by}
 use Rattle.qm_normal.proofs.order.add_names.Given as goal
 
 abbrev pub invariant-loop-named : goal.invariant-loop-named

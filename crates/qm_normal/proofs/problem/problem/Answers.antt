@@ -2,7 +2,7 @@ use Rattle.std.proofs.Common.{◌≡◌, ◌<◌, ◌^◌, None, Some, Ok, Err, 
 use Rattle.std.proofs.lemmas.Result.{err_from_is_err_and}
 use Rattle.qm_model.specs.declared.game.Problem.{Problem}
 use Rattle.qm_normal.specs.Limits.{rows_fault}
-use Rattle.qm_normal.specs.Sections.{part_of, rows_in}
+use Rattle.qm_normal.specs.RowSteps.{part_of, rows_in}
 use Rattle.qm_normal.proofs.OrderSizes.{few_names, order_apart}
 use Rattle.qm_normal.proofs.ProblemParts.{narrow_scale, objective_wrong, problem_made, rows_wrong, too_many, urows_wrong}
 use Rattle.qm_normal.proofs.TableLaws.{wholes_inside}

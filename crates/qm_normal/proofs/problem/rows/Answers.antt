@@ -5,7 +5,7 @@ use Rattle.qm_parse.specs.Known.{AreNamesBelow}
 use Rattle.qm_normal.specs.declared.fault.Which.TheVariants as which
 use Rattle.qm_normal.specs.Answers.{Gives}
 use Rattle.qm_normal.specs.Normal.{bound_rows_from, rows_from, with_front}
-use Rattle.qm_normal.specs.Sections.{part_of, rows_in}
+use Rattle.qm_normal.specs.RowSteps.{part_of, rows_in}
 use Rattle.qm_normal.specs.Variables.{continuous_names, whole_names}
 use Rattle.qm_normal.proofs.OrderSizes.{continuous_below}
 use Rattle.qm_normal.proofs.ProblemParts.{gives-first, gives-returned}

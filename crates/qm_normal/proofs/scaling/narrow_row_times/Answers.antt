@@ -4,7 +4,7 @@ use Rattle.std.specs.Int.{w128, cast_signed, cast_unsigned}
 use Rattle.std.proofs.lemmas.Int.{ints}
 use Rattle.qm_math.specs.Fraction.{Fraction}
 use Rattle.qm_normal.specs.Rows.{times}
-use Rattle.qm_normal.specs.Widths.{HasNarrowTerms}
+use Rattle.qm_normal.specs.RowSteps.{HasNarrowTerms}
 use Rattle.qm_normal.proofs.NarrowRows.{wide_by_terms}
 use Rattle.qm_normal.proofs.NonzeroTerms.{narrow_terms}
 use Rattle.qm_normal.proofs.scaling.narrow_row_times.Goals as goal

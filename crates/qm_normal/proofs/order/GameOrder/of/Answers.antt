@@ -1,7 +1,7 @@
 use Rattle.std.proofs.Common.{◌≡◌, ◌++◌, not, rules, arith}
 use Rattle.std.specs.List.{filter}
 use Rattle.std.proofs.lemmas.Grind.{common_steps}
-use Rattle.qm_normal.specs.Tables.{whole_by}
+use Rattle.qm_normal.specs.TableSteps.{whole_by}
 use Rattle.qm_normal.proofs.TableLaws.{game_order_made}
 use Rattle.qm_normal.proofs.order.GameOrder.of.Goals as goal
 

@@ -1,4 +1,4 @@
--- The exact bounds of a variable, and their rows.
+-- The exact bounds of a variable, and their rows. No public clause cites this.
 use Rattle.std.specs.Prelude.{ℕ, List, ◌++◌, Option}
 use Rattle.std.specs.Option.{option_and_then, option_map}
 use Rattle.qm_model.specs.declared.row.Row.{Row}
@@ -10,7 +10,7 @@ use Rattle.qm_normal.specs.declared.ends.Ends.{Ends}
 use Rattle.qm_normal.specs.declared.roles.Roles.{Roles}
 use Rattle.qm_normal.specs.Ends.{lower_end, upper_end}
 use Rattle.qm_normal.specs.Rows.{bound_row, high_row, low_row}
-use Rattle.qm_normal.specs.Tables.{lower_by, upper_by}
+use Rattle.qm_normal.specs.TableSteps.{lower_by, upper_by}
 
 abbrev pub bounds_of : Ast → Named → Bounds
 bounds_of ast named = record { lower = lower_end ast named.name; upper = upper_end ast named.name }
