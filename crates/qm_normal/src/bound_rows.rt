@@ -1,5 +1,4 @@
 ghost use Rattle.std.specs.Prelude.{◌≡◌, ◌≢◌, ◌<◌, ◌+◌, ◌^◌, ◌++◌, ◌∷◌, [], IfOk, MatchOption, false, true, length, pos};
-ghost use Rattle.qm_parse.specs.Known.{AreNamesBelow};
 ghost use Rattle.qm_normal.specs.declared.fault.NormalFault.TheVariants as fault;
 ghost use Rattle.qm_normal.specs.declared.fault.Which.TheVariants as which;
 ghost use Rattle.qm_normal.specs.Answers.{Gives};
@@ -11,6 +10,7 @@ ghost use Rattle.qm_normal.specs.Variables.{name_of, vars_of};
 
 use crate::ends::Ends;
 use crate::fault::{NormalFault, Which};
+use crate::names::name_of;
 use crate::roles::Roles;
 use crate::scaling::{MOST, fits};
 use qm_frac::Frac;
@@ -87,12 +87,9 @@ fn add_rows(
 
 /// That the row of a variable's bound is too wide.
 fn too_wide(alloc: Global, ast: &Ast, name: u32) -> Result<NormalFault, Memory>
-    requires { name < length ast.now.names }
     ensures { IfOk result (λ wide. wide ≡ fault.Wide (which.Bound (name_of ast.now name))) }
 {
-    let mut copy = List::new(alloc);
-    copy.append(ast.names.name(name as usize).as_slice())?;
-    Ok(NormalFault::Wide(Which::Bound(copy)))
+    Ok(NormalFault::Wide(Which::Bound(name_of(alloc, ast, name)?)))
 }
 
 /// The exact bounds of the variable of a name.
@@ -120,7 +117,6 @@ pub(crate) fn bound_rows(
     requires roles { IsRolesOf ast.now roles.now }
     requires ends { IsEndsOf ast.now ends.now }
     requires vars { vars.now ≡ vars_of ast.now }
-    requires names { AreNamesBelow (length ast.now.names) continuous.now }
     requires few { first + length continuous.now < 2 ^ 32 }
     ensures { Gives result (with_front front (bound_rows_from ast.now first continuous.now)) }
 {

@@ -1,7 +1,5 @@
 ghost use Rattle.std.specs.Prelude.{◌≡◌, ◌<◌, ◌≤◌, ◌^◌, None, length};
 ghost use Rattle.qm_parse.specs.Checks.{name_fault};
-ghost use Rattle.qm_parse.specs.Known.{HasNumbersBelow};
-ghost use Rattle.qm_parse.specs.declared.ast.Ast.{Ast};
 ghost use Rattle.qm_normal.specs.Answers.{Gives};
 ghost use Rattle.qm_normal.specs.Limits.{variables_fault};
 ghost use Rattle.qm_normal.specs.Normal.{objective_form, problem_form, problem_with, rows_of};
@@ -37,7 +35,6 @@ fn rows(
 ) -> Result<List<Row>, NormalFault>
     requires roles { IsRolesOf ast.now roles.now }
     requires ends { IsEndsOf ast.now ends.now }
-    requires known { HasNumbersBelow (length ast.now.names) ast.now }
     requires vars { vars.now ≡ vars_of ast.now }
     requires order { IsGameOrderOf ast.now order.now }
     requires places { IsPlacesOf order.now.names places.now }
@@ -91,7 +88,6 @@ pub(crate) fn problem(
     ends: &Ends,
 ) -> Result<Problem, NormalFault>
     requires names { name_fault ast.now ≡ None }
-    requires known { HasNumbersBelow (length ast.now.names) ast.now }
     requires roles { IsRolesOf ast.now roles.now }
     requires ends { IsEndsOf ast.now ends.now }
     requires variables { variables_fault ast.now ≡ None }

@@ -1,13 +1,11 @@
-use Rattle.std.proofs.Common.{◌≡◌, ℕ, List, Err, length, sym, subst, ◌∙◌}
+use Rattle.std.proofs.Common.{◌≡◌, ℕ, List, Err, length, subst, ◌∙◌}
 use Rattle.std.proofs.lemmas.Result.{err_from_is_err_and}
 use Rattle.qm_parse.specs.declared.ast.Named.{Named}
-use Rattle.qm_parse.specs.Known.{AreNamesBelow}
 use Rattle.qm_normal.specs.declared.fault.Which.TheVariants as which
 use Rattle.qm_normal.specs.Answers.{Gives}
 use Rattle.qm_normal.specs.Normal.{bound_rows_from, rows_from, with_front}
 use Rattle.qm_normal.specs.RowSteps.{part_of, rows_in}
 use Rattle.qm_normal.specs.Variables.{continuous_names, whole_names}
-use Rattle.qm_normal.proofs.OrderSizes.{continuous_below}
 use Rattle.qm_normal.proofs.ProblemParts.{gives-first, gives-returned}
 use Rattle.qm_normal.proofs.TableLaws.{continuous_behind, wholes_inside}
 use Rattle.qm_normal.proofs.problem.rows.Goals as goal
@@ -23,11 +21,6 @@ returns-in_err-front c =
 
 pub continuous-requires : goal.continuous-requires
 continuous-requires c = wholes_inside c.args.ast.now c.args.order.now c.requires.order
-
-pub bound_rows-requires-clause-names : goal.bound_rows-requires-clause-names
-bound_rows-requires-clause-names c =
-    let same : c.continuous.result.now ≡ continuous_names c.args.ast.now = c.continuous.ensures ∙ continuous_behind c.args.ast.now c.args.order.now c.requires.order in
-    subst (AreNamesBelow (length c.args.ast.now.names)) (sym same) (continuous_below (length c.args.ast.now.names) c.args.ast.now c.requires.known)
 
 pub returns : goal.returns
 unfolding rows_in part_of
