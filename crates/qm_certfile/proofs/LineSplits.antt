@@ -1,5 +1,5 @@
 -- The text of a line tells its words, and where it ends.
-use Rattle.std.proofs.Common.{◌≡◌, ℕ, ◌<◌, ◌≤◌, List, [], ◌∷◌, ◌++◌, append_assoc, get_or, drop, length, map, refl, sym, ap, ◌∙◌, arith}
+use Rattle.std.proofs.Common.{◌≡◌, ℕ, ◌<◌, ◌≤◌, List, [], ◌∷◌, ◌++◌, append_assoc, get_or, drop, length, map, refl, sym, ap, ◌∙◌, subst, arith}
 use Rattle.std.specs.Prelude.{◌^◌}
 use Rattle.qm_certfile.specs.Lines.{Word, Line, line_text, text_of}
 use Rattle.qm_certfile.specs.Numbers.{greatest}
@@ -104,3 +104,15 @@ parts_told A lines size (p ∷ ps) (q ∷ qs) place x y h k l e =
     ∙ ap (λ t. t ++ y) (text_of_append other others) ∙ append_assoc (text_of other) (text_of others) y) in
     let rest = parts_told A lines size ps qs place x y (omega (arith, h)) (omega arith) (omega arith) told.1 in
     (λ i. told.0 i ∷ rest.0 i, rest.1)
+
+-- what its layer tells, a tree tells
+pub told_by_layer : (A L : Type 0) (lines : A → Lines) (size : A → ℕ) (roll : L → A) (out : A → L) (layer_lines : L → Lines) (layer_size : L → ℕ)
+    → ((a : A) → roll (out a) ≡ a) → ((z : L) → lines (roll z) ≡ layer_lines z) → ((z : L) → size (roll z) ≡ layer_size z) → (z : L)
+    → ((other : L) (place : ℕ) (x y : List ℕ) → layer_size z < 10 ^ 64 → layer_size other < 10 ^ 64 → text_of (layer_lines z place) ++ x ≡ text_of (layer_lines other place) ++ y → (z ≡ other) × (x ≡ y))
+    → IsTold A lines size (roll z)
+told_by_layer A L lines size roll out layer_lines layer_size back lines_are size_is z told = λ place b x y h k e.
+    let there : lines b ≡ layer_lines (out b) = ap lines (sym (back b)) ∙ lines_are (out b) in
+    let size_there : size b ≡ layer_size (out b) = ap size (sym (back b)) ∙ size_is (out b) in
+    let same = told (out b) place x y (subst (λ n. n < 10 ^ 64) (size_is z) h) (subst (λ n. n < 10 ^ 64) size_there k)
+    (sym (ap (λ (f : Lines). text_of (f place) ++ x) (lines_are z)) ∙ e ∙ ap (λ (f : Lines). text_of (f place) ++ y) there) in
+    (ap roll same.0 ∙ back b, same.1)

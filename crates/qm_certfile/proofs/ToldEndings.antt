@@ -1,14 +1,12 @@
 -- What a certificate that passes tells of its problem.
-use Rattle.std.proofs.Common.{◌≡◌, refl, subst, List, [], ◌∷◌, ℤ, All, arith}
-use Rattle.std.specs.Prelude.{drop}
+use Rattle.std.proofs.Common.{◌≡◌, refl, subst, List, [], ◌∷◌, ℤ, arith}
 use Rattle.std.proofs.lemmas.List.{take-append-drop}
 use Rattle.qm_model.specs.declared.game.Problem.{Problem}
-use Rattle.qm_model.specs.declared.row.Row.{Row}
 use Rattle.qm_model.specs.declared.variable.Var.{Var}
 use Rattle.qm_model.specs.Boxes.{whole_box_of}
 use Rattle.qm_model.specs.Endings.{HasEnding}
 use Rattle.qm_model.specs.Goals.{Goal, Any, Above, IsProper}
-use Rattle.qm_model.specs.Legal.{AgreesWithPlay, IsLegal, universal_part}
+use Rattle.qm_model.specs.Legal.{IsLegal, universal_part}
 use Rattle.qm_model.specs.Plays.{IsPlay, whole_vars}
 use Rattle.qm_model.specs.Points.{continuous_vars}
 use Rattle.qm_model.specs.Sound.{IsSound}

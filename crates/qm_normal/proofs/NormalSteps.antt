@@ -18,7 +18,7 @@ use Rattle.qm_parse.specs.declared.ast.Named.{Named}
 use Rattle.qm_normal.specs.declared.fault.NormalFault.{NormalFault}
 use Rattle.qm_normal.specs.declared.fault.Which.{Which}
 use Rattle.qm_normal.specs.Limits.{rows_fault, variables_fault}
-use Rattle.qm_normal.specs.Normal.{Objective, bind, narrow, normal_form, objective_from, objective_of, objective_times, problem_with, rows_from, rows_of, scaled_objective, unless, urows_of}
+use Rattle.qm_normal.specs.Normal.{Objective, bind, narrow, normal_form, objective_from, objective_form, objective_times, problem_with, rows_from, rows_of, scaled_objective, unless, urows_of}
 use Rattle.qm_normal.specs.Rows.{common_denominator, is_constant, is_narrow, narrow_row, normal_row, related, row_times, total, totals}
 use Rattle.qm_normal.specs.Scopes.{scope_fault}
 use Rattle.qm_normal.specs.Variables.{game_order, vars_of}
@@ -58,7 +58,7 @@ pub record NormalParts (ast : Ast) (P : Problem) : Type 0 where
   pub in_limits : variables_fault ast ≡ None
   pub rows_are : rows_of ast ≡ Ok rows
   pub urows_are : urows_of ast ≡ Ok urows
-  pub objective_is : objective_of ast ≡ Ok objective
+  pub objective_is : objective_form ast ≡ Ok objective
   pub few_rows : rows_fault rows urows ≡ None
   pub problem : problem_with ast rows urows objective ≡ P
 
@@ -68,7 +68,7 @@ normal_parts ast P h =
     let limited = unless-ok (variables_fault ast) _ P scoped.1 in
     let rows = bind-ok (rows_of ast) _ P limited.1 in
     let urows = bind-ok (urows_of ast) _ P rows.2 in
-    let objective = bind-ok (objective_of ast) _ P urows.2 in
+    let objective = bind-ok (objective_form ast) _ P urows.2 in
     let few = unless-ok (rows_fault rows.0 urows.0) _ P objective.2 in
     record {
       rows = rows.0;

@@ -112,8 +112,8 @@ zero_over d den =
     same_trans (product_of (whole (pos d)) (whole (pos 0))) (whole (pos 0)) (over den (pos 0)) (whole_den (pos 0)) (product_of-zero (whole (pos d)))
     (zero-*ℤ (pos den) ∙ sym (zero-*ℤ (pos 1)))
 
-one_more : (k m z : ℤ) (den : ℕ) → 0 < den → IsSame (sum_of (product_of (whole k) (over den m)) (over den z)) (over den ((k *ℤ m) +ℤ z))
-one_more k m z den some =
+multiple_plus_over : (k m z : ℤ) (den : ℕ) → 0 < den → IsSame (sum_of (product_of (whole k) (over den m)) (over den z)) (over den ((k *ℤ m) +ℤ z))
+multiple_plus_over k m z den some =
     same_trans (sum_of (product_of (whole k) (over den m)) (over den z)) (sum_of (over den (k *ℤ m)) (over den z)) (over den ((k *ℤ m) +ℤ z))
     (sum_of_den (over den (k *ℤ m)) (over den z) some some)
     (sum_of-same (product_of (whole k) (over den m)) (over den z) (over den (k *ℤ m)) (over den z) (product_of-whole-over k den m) (same_refl (over den z)))
@@ -134,7 +134,7 @@ scaled_weighted d den nums some (s ∷ sums) (named ∷ order) divides all =
     same_given (whole (pos d) ∷ s ∷ m ∷ w ∷ whole k ∷ over den z ∷ over den ((k *ℤ nums named.name) +ℤ z) ∷ []) (x0 ⊗ (x1 ⊗ x2 ⊕ x3)) x6
     ((number (pos 1), x0 ⊗ x3, x5) ∷ (x2, x0 ⊗ x1, x4) ∷ (number (pos 1), x4 ⊗ x2 ⊕ x5, x6) ∷ [])
     (whole_den (pos d), (s_den, (some, (w_den, (whole_den k, (some, (some, tt)))))))
-    (scaled_weighted d den nums some sums order (All-tail (DividesInto d) s sums divides) rest, (times_same d s (All-head (DividesInto d) s sums divides), (one_more k (nums named.name) z den some, tt))) refl
+    (scaled_weighted d den nums some sums order (All-tail (DividesInto d) s sums divides) rest, (times_same d s (All-head (DividesInto d) s sums divides), (multiple_plus_over k (nums named.name) z den some, tt))) refl
 
 -- ---- the form
 

@@ -98,10 +98,10 @@ unfilter P test (x ∷ xs) a b =
       | false ↦ λ p q. All-cons P x xs (All-head P x no_list q) (unfilter P test xs p (All-tail P x no_list q))
     ] a b
 
-behind : (f : Named → ℤ) (w c : List Named) (i : ℕ) → get_or (map f (w ++ c)) (length w + i) (pos 0) ≡ get_or (map f c) i (pos 0)
-behind f [] c i = ap (λ (j : ℕ). get_or (map f c) j (pos 0)) (let e : 0 + i ≡ i = omega arith in e)
-behind f (x ∷ w) c i =
-    ap (λ (j : ℕ). get_or (f x ∷ map f (w ++ c)) j (pos 0)) (let e : suc (length w) + i ≡ suc (length w + i) = omega arith in e) ∙ behind f w c i
+get_or-map_behind : (f : Named → ℤ) (w c : List Named) (i : ℕ) → get_or (map f (w ++ c)) (length w + i) (pos 0) ≡ get_or (map f c) i (pos 0)
+get_or-map_behind f [] c i = ap (λ (j : ℕ). get_or (map f c) j (pos 0)) (let e : 0 + i ≡ i = omega arith in e)
+get_or-map_behind f (x ∷ w) c i =
+    ap (λ (j : ℕ). get_or (f x ∷ map f (w ++ c)) j (pos 0)) (let e : suc (length w) + i ≡ suc (length w + i) = omega arith in e) ∙ get_or-map_behind f w c i
 
 is_false : (b : Bool) → not b ≡ true → b ≡ false
 is_false true h = absurd (cc)
@@ -129,7 +129,7 @@ bounds_mean ast den nums rows proper some whole h =
     let multiple = multiples k d inside (wholes k d inside) in
     whole_means ast den nums named multiple.0 (proper_ends ast named proper) (wholes k d inside) some multiple.1 in
     let long : length w + length c ≤ length values = omega (arith, length-map (game_order ast) (λ (named : Named). nums named.name), length-append w c) in
-    let list = continuous_list ast den nums values (length w) c rows ends free long (λ i. behind (λ (named : Named). nums named.name) w c i) h in
+    let list = continuous_list ast den nums values (length w) c rows ends free long (λ i. get_or-map_behind (λ (named : Named). nums named.name) w c i) h in
     let within = within_list ast den nums (game_order ast) in (
       λ k.
           let all = within.0 k.0 in

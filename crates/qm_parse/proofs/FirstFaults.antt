@@ -18,7 +18,7 @@ use Rattle.qm_parse.specs.Stages.{expected, next_state, wanted}
 use Rattle.qm_parse.specs.Texts.{IsText, KnowColons, KnowsColon, is_colon_next}
 use Rattle.qm_parse.proofs.ReadSteps.{reads_symbol}
 use Rattle.qm_parse.proofs.ReadTexts.{text_reads}
-use Rattle.qm_parse.proofs.Beginnings.{AreInRange, accepted_unlabelled, failed, front_moves, front_read, in_range-append, is_label, left, next_cases, next_in_range, no_label_symbol, not_both, plain_no_label, refused, refused_unlabelled, state_behind-append, state_behind-step}
+use Rattle.qm_parse.proofs.Beginnings.{AreInRange, accepted_unlabelled, failed, front_moves, front_read, in_range-append, is_label, left, next_cases, next_in_range, no_label_symbol, answered_is_not_failed, plain_no_label, refused, refused_unlabelled, state_behind-append, state_behind-step}
 use Rattle.qm_parse.proofs.Endings.{AreRead, ending, ending_colons, ending_label, ending_plain, ending_read}
 
 -- what is read is a text
@@ -204,7 +204,7 @@ no_text names ast state front symbol more reached ranges none colons text =
     let end : Place = record { line = 1; column = 1 } in
     let over = front_read start state (empty_draft names) front reached ranges in
     let all = ap (λ xs. read start (empty_draft names) xs end) (append_assoc front (symbol ∷ []) more) in
-    not_both ast (unread.Expected symbol.place (expected state.stage symbol))
+    answered_is_not_failed ast (unread.Expected symbol.place (expected state.stage symbol))
     (sym (text_reads names ((front ++ symbol ∷ []) ++ more) ast end colons text) ∙ all ∙ over.1 (symbol ∷ more) end ∙ refused state over.0 symbol more end none)
 
 stops_as : (state : State) (front : List Symbol) (symbol : Symbol) → state_behind start front ≡ Some state → AreInRange front → next_state state symbol ≡ None → ¬ CanGoOn (front ++ symbol ∷ [])
@@ -232,7 +232,7 @@ failed_is one other e = cc
 -- where the text ends too early
 finished_fault : (s : Stage) (draft other : Draft) (end : Place) (fault : Unread) → finished s draft end ≡ Err fault → (fault ≡ unread.Expected end (wanted s)) × (finished s other end ≡ Err fault)
 unfolding finished
-finished_fault stage.Ended draft other end fault e = absurd (not_both draft.ast fault e)
+finished_fault stage.Ended draft other end fault e = absurd (answered_is_not_failed draft.ast fault e)
 finished_fault s draft other end fault e = (sym (failed_is (unread.Expected end (wanted s)) fault e), e)
 
 read_end : (state : State) (draft : Draft) (end : Place) → read state draft [] end ≡ finished state.stage draft end
@@ -255,7 +255,7 @@ ends_too_early written_is state front draft end fault reached ranges colons e =
         λ names ast text.
             let over = front_read start state (empty_draft names) front reached ranges in
             let all = ap (λ xs. read start (empty_draft names) xs end) (sym (append-nil front)) in
-            not_both ast fault
+            answered_is_not_failed ast fault
             (sym (text_reads names front ast end (subst KnowColons (append-nil front) colons) text) ∙ all ∙ over.1 [] end ∙ read_end state over.0 end ∙ (finished_fault state.stage draft over.0 end fault ended).1),
       );
     }

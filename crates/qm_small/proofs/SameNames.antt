@@ -139,7 +139,7 @@ binaries_used ast n has =
 no_names : (Q : Named → Type 0) (list : List Named) → list ≡ [] → All Q list
 no_names Q list none = subst (All Q) (sym none) (All-nil Q)
 
-pub right_names : (names : List (List ℕ)) (written : Written) (ast : Ast) → IsTreeOf names written ast → small.NamesRight written → NamesRight ast
+pub right_names : (names : List (List ℕ)) (written : Written) (ast : Ast) → IsTreeOf names written ast → small.NamesFit written → NamesRight ast
 right_names names written ast tree right =
     let fit = right.lists in
     let Q : Named → Type 0 = λ named. Has ast.order named.name in
@@ -174,5 +174,5 @@ right_names names written ast tree right =
       bounded = λ k d below. left_of (has_name ast.binaries _) (has_upper ast.bounds _) (binary k d below);
     }
 
-pub no_fault : (names : List (List ℕ)) (written : Written) (ast : Ast) → IsTreeOf names written ast → small.NamesRight written → name_fault ast ≡ None
+pub no_fault : (names : List (List ℕ)) (written : Written) (ast : Ast) → IsTreeOf names written ast → small.NamesFit written → name_fault ast ≡ None
 no_fault names written ast tree right = None-from_NamesRight ast (right_names names written ast tree right)

@@ -14,7 +14,7 @@ use Rattle.qm_parse.specs.declared.word.Symbol.{Symbol}
 use Rattle.qm_parse.specs.declared.word.Word.{Word}
 use Rattle.qm_parse.specs.declared.word.Word.TheVariants.{Name, Number, Sign, Related, Keyword as Reserved}
 use Rattle.qm_parse.specs.Drafts.{one, signed_by}
-use Rattle.qm_parse.specs.Parts.{Each, Either, ListedName, Multiple, NameAt, NothingIf, Part, Row, RowEnds, Says, SignOf, SignedNumber, SignedTerm, StandsAt, Terms, is_odd}
+use Rattle.qm_parse.specs.Parts.{Each, Either, ListedName, Multiple, NameAt, NothingIf, Part, RowOf, RowEnds, Says, SignOf, SignedNumber, SignedTerm, StandsAt, Terms, is_odd}
 use Rattle.qm_small.specs.Written.{Word as Spelling, WrittenRow, WrittenTerm}
 use Rattle.qm_small.specs.Grammar as small
 use Rattle.qm_small.specs.Problems.{signed_factor}
@@ -271,7 +271,7 @@ no_terms names [] found some both = absurd (some refl)
 no_terms names (term ∷ written) [] some both = absurd both
 no_terms names (term ∷ written) (t ∷ found) some both = λ e. absurd cc
 
-pub a_row : (names : List (List ℕ)) (written : WrittenRow) (ws rest : List Spelling) (symbols : List Symbol) → small.Row written ws rest → AreMeant names ws symbols → Finds names rest (RowIs names written) Row symbols
+pub a_row : (names : List (List ℕ)) (written : WrittenRow) (ws rest : List Spelling) (symbols : List Symbol) → small.Row written ws rest → AreMeant names ws symbols → Finds names rest (RowIs names written) RowOf symbols
 a_row names written ws rest symbols p meant =
     let takes = row_takes written ws rest p in
     let at = first_place names ws symbols (omega arith) meant in

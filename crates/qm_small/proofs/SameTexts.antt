@@ -16,7 +16,7 @@ use Rattle.qm_parse.specs.declared.stage.NameList.TheVariants.{Binaries, Exists,
 use Rattle.qm_parse.specs.declared.stage.Section.TheVariants as section
 use Rattle.qm_parse.specs.declared.word.Symbol.{Symbol}
 use Rattle.qm_parse.specs.declared.word.Word.TheVariants.{Keyword as Reserved}
-use Rattle.qm_parse.specs.Parts.{Constant, Each, Either, ListHeading, ListedName, Multiple, Objective, Part, Row, RowsHeading, Says, SenseWord}
+use Rattle.qm_parse.specs.Parts.{Constant, Each, Either, ListHeading, ListedName, Multiple, ObjectiveOf, Part, RowOf, RowsHeading, Says, SenseWord}
 use Rattle.qm_parse.specs.Reading.{empty_ast}
 use Rattle.qm_parse.specs.Texts.{AreSections, IsText, Listed, SectionOf, TextOf, Written, WrittenText, ast_of, section_written}
 use Rattle.qm_parse.proofs.OnceOnly.{AllPairs-nil}
@@ -32,7 +32,7 @@ maximize : (names : List (List ℕ)) (ws rest : List Spelling) (symbols : List S
 maximize names ws rest symbols p meant =
     let found = heading names (codes "MAXIMIZE") keyword.Maximize kind_of-maximize ws rest symbols p meant in (found.0, inl found.1, found.2)
 
-objective : (names : List (List ℕ)) (written : List WrittenTerm) (ws rest : List Spelling) (symbols : List Symbol) → small.Terms written ws rest → AreMeant names ws symbols → Finds names rest (Both (TermIs names) written) Objective symbols
+objective : (names : List (List ℕ)) (written : List WrittenTerm) (ws rest : List Spelling) (symbols : List Symbol) → small.Terms written ws rest → AreMeant names ws symbols → Finds names rest (Both (TermIs names) written) ObjectiveOf symbols
 objective names written ws rest symbols p meant =
     let found = terms names (λ t n. Either (Multiple t n) (Constant t n)) (λ t n ss r m. inl m) written ws rest symbols p meant in
     (found.0, found.1, found.2, (symbols, inr refl, found.3), found.4)
@@ -252,7 +252,7 @@ has_tree names written ws symbols p meant =
     let left = objective names written.objective p.1.0 p.0 sense.0 p.1.2 sense.2 in
     let part = p.2 in
     let head = rows_heading names p.0 part.1.0 part.1.2.0 left.2 part.1.1 part.1.2.1 left.4 in
-    let rows = each names (RowIs names) small.Row Row (a_row names) written.rows part.1.2.0 part.0 head.0 part.1.2.2 head.2 in
+    let rows = each names (RowIs names) small.Row RowOf (a_row names) written.rows part.1.2.0 part.0 head.0 part.1.2.2 head.2 in
     let lists = part.2 in
     let binaries = name_section names (codes "BINARIES") keyword.Binaries Binaries kind_of-binaries (λ ss r h. inl h) written.binaries part.0 lists.0 rows.2 lists.1 rows.4 in
     let exists = optional_section names (codes "EXISTS") keyword.Exists Exists kind_of-exists (λ ss r h. h) written.exists lists.0 lists.2.0 binaries.2 lists.2.1 binaries.4 in

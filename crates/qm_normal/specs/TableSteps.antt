@@ -1,5 +1,5 @@
--- What the tables of a text's variables say, and which text they are of.
-use Rattle.std.specs.Prelude.{◌≡◌, ℕ, ℤ, pos, ◌^◌, ◌-ℤ◌, unsigned_abs, Bool, not, ◌&&◌, ◌||◌, nat_le, int_le, List, Option, None, slice_index_or, unwrap_or, if◌then◌else◌}
+-- What the tables of a text's variables say, and which text they are of. No public clause cites this.
+use Rattle.std.specs.Prelude.{◌≡◌, ℕ, ℤ, pos, ◌^◌, ◌-ℤ◌, unsigned_abs, Bool, not, ◌&&◌, ◌||◌, nat_le, int_le, List, length, Option, None, slice_index_or, unwrap_or, if◌then◌else◌}
 use Rattle.qm_math.specs.Fraction.{Fraction, whole}
 use Rattle.qm_frac.specs.Arithmetic.{ceil_of, floor_of}
 use Rattle.qm_model.specs.declared.variable.Player.TheVariants.{Exists, All as Universal}
@@ -11,9 +11,10 @@ use Rattle.qm_parse.specs.declared.ast.AstBound.{AstBound}
 use Rattle.qm_parse.specs.declared.ast.Named.{Named}
 use Rattle.qm_normal.specs.declared.ends.Ends.{Ends}
 use Rattle.qm_normal.specs.declared.latest.Latest.{Latest}
+use Rattle.qm_normal.specs.declared.order.GameOrder.{GameOrder}
 use Rattle.qm_normal.specs.declared.roles.Roles.{Roles}
 use Rattle.qm_normal.specs.Ends.{greater_of, is_binary, last_value, later, lesser_of, sets_lower}
-use Rattle.qm_normal.specs.Variables.{is_universal, is_whole, name_of}
+use Rattle.qm_normal.specs.Variables.{game_order, is_universal, is_whole, name_of, whole_names}
 
 -- the variable takes whole values alone, by the marks
 abbrev pub whole_by : Roles → ℕ → Bool
@@ -81,3 +82,12 @@ fits_between whole low high =
 
 abbrev pub fits_by : Roles → Ends → ℕ → Bool
 fits_by roles ends name = fits_between (whole_by roles name) (low_by roles ends name) (high_by roles ends name)
+
+-- the variable is whole, or else continuous, by the marks
+abbrev pub kept_by : Roles → Bool → ℕ → Bool
+kept_by roles whole name = if whole then whole_by roles name else not (whole_by roles name)
+
+-- this is the text's game order
+pub record IsGameOrderOf (ast : Ast) (order : GameOrder) : Type 0 where
+  pub names : order.names ≡ game_order ast
+  pub wholes : order.wholes ≡ length (whole_names ast)

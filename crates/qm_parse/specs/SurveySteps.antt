@@ -1,4 +1,4 @@
--- What a walk over places of variables adds to a survey of them.
+-- What a walk over places of variables adds to a survey of them. No public clause cites this.
 use Rattle.std.specs.Prelude.{◌≡◌, ℕ, not, ◌||◌, List, filter, Option, Some, None}
 use Rattle.qm_parse.specs.Checks.{earlier, earliest, has_name, unordered, uses}
 use Rattle.qm_parse.specs.Marks.{is_marked}

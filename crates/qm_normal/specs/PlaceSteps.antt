@@ -1,4 +1,4 @@
--- Places in game order, by the numbers of names.
+-- Places in game order, by the numbers of names. No public clause cites this.
 use Rattle.std.specs.Prelude.{◌≢◌, ℕ, List, All, AllPairs, Option, None, Some, slice_get, slice_index_or, map, MatchOption, ◌≡◌}
 use Rattle.qm_parse.specs.declared.ast.Named.{Named}
 use Rattle.qm_normal.specs.declared.places.Places.{Places}

@@ -1,4 +1,4 @@
--- The text of a line, piece by piece.
+-- The text of a line, piece by piece. No public clause cites this.
 use Rattle.std.specs.Prelude.{ℕ, List, [], ◌∷◌, ◌++◌}
 use Rattle.qm_certfile.specs.Lines.{Word}
 
