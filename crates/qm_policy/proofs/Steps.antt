@@ -1,5 +1,5 @@
 -- What the answer is from a part on, and small facts of the tests.
-use Rattle.std.proofs.Common.{◌≡◌, ℕ, zero, suc, ◌+◌, ◌*◌, ◌<◌, ◌≤◌, true, false, List, [], ◌∷◌, length, drop, get_or, All, refl, sym, ap, ◌∙◌, arith, ℤ, pos, unsigned_abs, Ok, Err}
+use Rattle.std.proofs.Common.{◌≡◌, ℕ, zero, suc, ◌+◌, ◌*◌, ◌<◌, ◌≤◌, true, List, [], ◌∷◌, length, drop, get_or, All, refl, sym, ap, ◌∙◌, arith, ℤ, pos, unsigned_abs, Ok, Err}
 use Rattle.std.specs.Prelude.{◌&&◌, nat_lt, ◌^◌}
 use Rattle.std.proofs.Math.Nat.{div-one, mul-le-mul_left}
 use Rattle.std.proofs.lemmas.List.{drop_more}
@@ -16,17 +16,16 @@ use Rattle.qm_model.specs.declared.range.Range.{Range}
 use Rattle.qm_model.specs.declared.row.Term.{Term}
 use Rattle.qm_model.specs.declared.variable.Var.{Var}
 use Rattle.qm_model.specs.Sizes.{reach_in_vars, terms_size}
-use Rattle.qm_trees.specs.declared.rule.Rule.TheVariants as rule
-use Rattle.qm_trees.specs.Verdicts.{Verdict, answer_of}
-use Rattle.qm_trees.specs.Ranges.{counts_right, judge_each, judge_parts}
+use Rattle.qm_trees.specs.Verdicts.{answer_of}
 use Rattle.qm_trees.specs.Leaves.{add_terms, are_in_bounds}
 use Rattle.qm_trees.specs.declared.policy.Policy.{Policy, Answer, out-Policy}
 use Rattle.qm_trees.specs.declared.policy.Policy.TheVariants.{rolls-Answer}
 use Rattle.qm_trees.specs.declared.policy.Below.TheViews.{out-roll-Policy}
 use Rattle.qm_trees.specs.declared.policy.PolicyPart.{PolicyPart}
 use Rattle.qm_trees.specs.declared.policy.Below.TheOpen as node
-use Rattle.qm_trees.specs.PolicyJudgement.{Layer, judge_move, judge_policy}
+use Rattle.qm_trees.specs.PolicyJudgement.{judge_policy}
 use Rattle.qm_model.specs.declared.game.Problem.{Problem}
+use Rattle.qm_policy.specs.Parts.{judge_answer}
 use Rattle.qm_policy.specs.Steps.{add_term}
 
 -- a whole number is in lowest terms
@@ -45,13 +44,13 @@ whole_in_range n h = in_range_small n 1 h (omega arith)
 answers : (parts : List PolicyPart) → out-Policy (Answer parts) ≡ node.Answer parts
 answers parts = ap out-Policy (sym (rolls-Answer parts)) ∙ out-roll-Policy (node.Answer parts)
 
-pub answer_move : (P : Problem) (v : Fraction) (rest : List Var) (x : Var) (later : List Var) (depth : ℕ) (bx : List Range) (policy : Policy) (parts slice : List PolicyPart)
-    → rest ≡ x ∷ later → policy ≡ Answer parts → slice ≡ parts
-    → answer_of (judge_move P x depth (judge_policy P v later (depth + 1)) bx (node.Answer slice)) ≡ answer_of (judge_policy P v rest depth bx policy)
-answer_move P v rest x later depth bx policy parts slice e is same =
-    ap (λ ps. answer_of (judge_move P x depth (judge_policy P v later (depth + 1)) bx (node.Answer ps))) same
-    ∙ sym (ap (λ (layer : Layer). answer_of (judge_move P x depth (judge_policy P v later (depth + 1)) bx layer)) (ap out-Policy is ∙ answers parts))
-    ∙ sym (ap (λ xs. answer_of (judge_policy P v xs depth bx policy)) e)
+pub answer_judged : (P : Problem) (v : Fraction) (rest : List Var) (depth : ℕ) (bx : List Range) (policy : Policy) (parts slice : List PolicyPart) → policy ≡ Answer parts → slice ≡ parts
+    → answer_of (judge_answer P v rest depth bx slice) ≡ answer_of (judge_policy P v rest depth bx policy)
+answer_judged P v rest depth bx policy parts slice is same = by rest (ap out-Policy is ∙ answers parts ∙ sym (ap (λ ps. node.Answer ps) same))
+  where
+    by : (xs : List Var) → out-Policy policy ≡ node.Answer slice → answer_of (judge_answer P v xs depth bx slice) ≡ answer_of (judge_policy P v xs depth bx policy)
+    by [] layer = rw layer refl
+    by (x ∷ later) layer = rw layer refl
 
 -- ---- bounds
 

@@ -2,7 +2,7 @@ use Rattle.std.proofs.Common.{length}
 use Rattle.qm_model.proofs.BoxLaws.{IsBox-length}
 use Rattle.qm_model.proofs.Sizes.{reach_in_box_le, rows_size_le, rows_vars_below}
 use Rattle.qm_model.specs.Sizes.{reach_in_box}
-use Rattle.qm_refute.proofs.allowed.meets_on_box.Goals as goal
+use Rattle.qm_refute.proofs.allowed.uncertainty_holds.Goals as goal
 
 pub hold_on_box-requires-clause-vars : goal.hold_on_box-requires-clause-vars
 hold_on_box-requires-clause-vars c =
