@@ -1,21 +1,14 @@
 -- What the search finds, from its pieces.
-use Rattle.std.proofs.Common.{◌≡◌, refl, ap, subst, ℕ, ◌+◌, List, [], ◌∷◌, map, drop, set, arith, ℤ, pos, ◌≤ℤ◌, ◌<ℤ◌, true, false, Some}
-use Rattle.std.specs.Prelude.{IsSomeAnd, slice_get}
+use Rattle.std.proofs.Common.{◌≡◌, refl, ap, subst, ℕ, ◌+◌, List, [], ◌∷◌, map, drop, set, arith, ℤ, ◌≤ℤ◌, ◌<ℤ◌, Some}
 use Rattle.std.proofs.lemmas.Int.{ints}
-use Rattle.qm_math.specs.Fraction.{whole}
 use Rattle.qm_model.specs.declared.range.Range.{Range}
-use Rattle.qm_model.specs.declared.row_id.RowId.TheVariants as id
 use Rattle.qm_model.specs.declared.variable.Player.TheVariants.{All as Universal}
 use Rattle.qm_model.specs.declared.variable.Var.{Var}
 use Rattle.qm_model.specs.declared.game.Problem.{Problem}
-use Rattle.qm_model.specs.Boxes.{Cover, IsDead}
-use Rattle.qm_model.specs.Plays.{whole_vars}
-use Rattle.qm_model.specs.Sound.{IsSound}
-use Rattle.qm_model.proofs.BoxLaws.{IsBox-length}
-use Rattle.qm_game.specs.First.{HasNone}
-use Rattle.qm_trees.specs.declared.empty.Empty.{Empty, Split, Close}
+use Rattle.qm_model.specs.Boxes.{Cover}
+use Rattle.qm_trees.specs.declared.empty.Empty.{Empty, Split}
 use Rattle.qm_trees.specs.declared.empty.EmptyPart.{EmptyPart}
-use Rattle.qm_trees.specs.EmptyJudgement.{range_of, below_of, some_universal_empty}
+use Rattle.qm_trees.specs.EmptyJudgement.{range_of, below_of}
 use Rattle.qm_model.specs.Ranges.{range_at, single}
 use Rattle.qm_legal.specs.Queries.{Shows}
 use Rattle.qm_legal.specs.SearchSteps.{IsFound, IsFoundPart, IsOneOf, SetsNext}

@@ -6,7 +6,7 @@ use Rattle.std.proofs.lemmas.List.{length-drop, length-take, take_all, take-take
 use Rattle.std.proofs.lemmas.List.Elements.{All-push}
 use Rattle.qm_model.specs.declared.range.Range.{Range}
 use Rattle.qm_model.specs.declared.variable.Player.{Player}
-use Rattle.qm_model.specs.declared.variable.Player.TheVariants.{Exists, All as Universal}
+use Rattle.qm_model.specs.declared.variable.Player.TheVariants.{Exists}
 use Rattle.qm_model.specs.declared.variable.Var.{Var}
 use Rattle.qm_model.specs.declared.game.Problem.{Problem}
 use Rattle.qm_model.specs.Boxes.{Cover, FollowOn, IsBox, IsDead}

@@ -1,18 +1,17 @@
-use Rattle.std.proofs.Common.{rules, ◌≡◌, ℤ, ◌<ℤ◌, false, ◌+◌, ◌∙◌, [], ◌∷◌, ◌++◌, drop, length, refl, sym, to_z, ap, subst, set, arith}
+use Rattle.std.proofs.Common.{rules, ◌≡◌, ℤ, ◌<ℤ◌, false, ◌∙◌, [], ◌∷◌, ◌++◌, drop, length, refl, sym, to_z, ap, subst, set, arith}
 use Rattle.std.proofs.lemmas.Int.{ints, to_z-of_z}
 use Rattle.std.proofs.lemmas.List.{length-drop, length-set}
 use mir.Syntax.{w128}
 use mir.Val.{SFits}
 use Rattle.std.specs.Prelude.{IsSomeAnd, int_le, slice_get}
 use Rattle.qm_model.specs.declared.variable.Player.TheVariants.{Exists, All as Universal}
-use Rattle.qm_model.specs.Boxes.{IsBox, IsDead}
-use Rattle.qm_model.proofs.Players.{exists_of, universal_of}
+use Rattle.qm_model.specs.Boxes.{IsDead}
+use Rattle.qm_model.proofs.Players.{exists_of}
 use Rattle.qm_trees.proofs.Lines.{le_of_test}
 use Rattle.qm_cover.proofs.Places.{put_back}
-use Rattle.qm_legal.specs.SearchSteps.{IsFound, IsPart, SetsNext}
 use Rattle.qm_legal.proofs.Boxes.{one_inside, set_in_box}
 use Rattle.qm_legal.proofs.Places.{alive_behind, alive_behind_value, completed_at_end, completed_behind_value, found_behind_if, next_below, part_from, reached_more, sets_next, some_next}
-use Rattle.qm_legal.proofs.Found.{one_of, part_found, split_found}
+use Rattle.qm_legal.proofs.Found.{part_found, split_found}
 use Rattle.qm_legal.proofs.search.+search.Goals as goal
 
 past_of_test : (a b : ℤ) → int_le a b ≡ false → b <ℤ a
