@@ -68,7 +68,7 @@ set_at (x ∷ xs) [] i d set at = absurd set
 set_at (x ∷ xs) (r ∷ bx) zero d set at = set.0 (universal_of x at)
 set_at (x ∷ xs) (r ∷ bx) (suc i) d set at = set_at xs bx i d set.1 at
 
-set_long : (xs : List Var) (bx : List Range) → AreSet xs bx → length xs ≤ length bx
+pub set_long : (xs : List Var) (bx : List Range) → AreSet xs bx → length xs ≤ length bx
 set_long [] bx set = omega arith
 set_long (x ∷ xs) [] set = absurd set
 set_long (x ∷ xs) (r ∷ bx) set = omega (arith, set_long xs bx set.1)
