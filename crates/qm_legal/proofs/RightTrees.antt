@@ -30,7 +30,7 @@ use Rattle.qm_trees.proofs.EmptyLines.{right_of_fine}
 use Rattle.qm_trees.proofs.Lines.{fine_of_answer}
 use Rattle.qm_trees.proofs.WholeValues.{dead_row_value}
 use Rattle.qm_combo.proofs.EmptyTests.{at_close, closed_by_range, closed_by_value}
-use Rattle.qm_legal.specs.Search.{Shows}
+use Rattle.qm_legal.specs.Queries.{Shows}
 
 -- ---- closing
 

@@ -26,9 +26,9 @@ use Rattle.qm_trees.specs.RefuteRight.{IsRightMove, IsRightRefutation, IsMoveInR
 use Rattle.qm_trees.proofs.HarderGoals.{right_at_harder, in_range_at_harder}
 use Rattle.qm_search.specs.declared.choices.Best.{Best}
 use Rattle.qm_search.specs.declared.choices.Choices.{Choices}
-use Rattle.qm_search.specs.Choices.{AreChoices, IsBest, better_of, goal_beyond}
-use Rattle.qm_search.specs.Outcomes.{IsReached, Secures, Refutes}
-use Rattle.qm_search.specs.Parts.{AreSingles, IsBehind}
+use Rattle.qm_search.specs.ChoiceSteps.{AreChoices, IsBest, better_of, goal_beyond}
+use Rattle.qm_search.specs.OutcomeSteps.{IsReached, Secures, Refutes}
+use Rattle.qm_search.specs.PartSteps.{AreSingles, IsBehind}
 use Rattle.qm_search.proofs.BelowTests.{at_most_of_below, at_most_of_not}
 use Rattle.qm_search.proofs.SingleParts.{push_singles, singles_cover}
 

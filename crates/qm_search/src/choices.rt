@@ -5,9 +5,9 @@ ghost use Rattle.qm_model.specs.declared.variable.Player.TheVariants.{Exists};
 ghost use Rattle.qm_model.specs.declared.variable.Var.{Var};
 ghost use Rattle.qm_model.specs.Ranges.{range_at, single};
 ghost use Rattle.qm_trees.specs.RefuteJudgement.{below_of, range_of};
-ghost use Rattle.qm_search.specs.Choices.{AreChoices, better_of, is_better};
-ghost use Rattle.qm_search.specs.Outcomes.{IsOutcome};
-ghost use Rattle.qm_search.specs.Parts.{IsBehind};
+ghost use Rattle.qm_search.specs.ChoiceSteps.{AreChoices, better_of, is_better};
+ghost use Rattle.qm_search.specs.OutcomeSteps.{IsOutcome};
+ghost use Rattle.qm_search.specs.PartSteps.{IsBehind};
 
 use crate::order::is_less;
 use crate::outcome::Outcome;

@@ -2,7 +2,7 @@ use Rattle.std.proofs.Common.{rules, ◌≡◌, ◌∷◌, [], ◌++◌, subst, 
 use Rattle.std.proofs.lemmas.Int.{to_z-of_z}
 use mir.Syntax.{w64}
 use Rattle.qm_model.specs.Ranges.{single}
-use Rattle.qm_search.specs.Outcomes.{IsOutcome}
+use Rattle.qm_search.specs.OutcomeSteps.{IsOutcome}
 use Rattle.qm_search.proofs.ChoiceLaws.{lost_choice, reached_choice}
 use Rattle.qm_search.proofs.choices.Choices.with.Goals as goal
 

@@ -1,4 +1,4 @@
--- The choices of an existential variable, as far as they have been tried.
+-- Steps of the search: the choices of an existential variable, as far as they have been tried.
 use Rattle.std.specs.Prelude.{◌<◌, ℕ, ◌+◌, ℤ, ◌≤ℤ◌, ◌<ℤ◌, Bool, true, List, All, map, slice_set, Option, Some, None, if◌then◌else◌}
 use Rattle.qm_math.specs.Fraction.{Fraction, is_below}
 use Rattle.qm_model.specs.declared.range.Range.{Range}
@@ -9,8 +9,8 @@ use Rattle.qm_model.specs.Ranges.{single}
 use Rattle.qm_trees.specs.RefuteJudgement.{range_of, below_of}
 use Rattle.qm_search.specs.declared.choices.Best.{Best}
 use Rattle.qm_search.specs.declared.choices.Choices.{Choices}
-use Rattle.qm_search.specs.Outcomes.{Secures, Refutes}
-use Rattle.qm_search.specs.Parts.{AreSingles}
+use Rattle.qm_search.specs.OutcomeSteps.{Secures, Refutes}
+use Rattle.qm_search.specs.PartSteps.{AreSingles}
 
 -- the goal that no choice so far reaches
 abbrev pub goal_beyond : Option Best → Goal

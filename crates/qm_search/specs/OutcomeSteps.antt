@@ -1,4 +1,4 @@
--- What the search answers from a box on, with the trees that show it.
+-- Steps of the search: what it answers from a box on, with the trees that show it.
 use Rattle.std.specs.Prelude.{ℕ, List, []}
 use Rattle.qm_math.specs.Fraction.{Fraction, HasPositiveDen}
 use Rattle.qm_model.specs.declared.range.Range.{Range}

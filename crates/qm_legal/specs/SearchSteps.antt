@@ -1,7 +1,7 @@
--- What the search finds from a place on.
+-- Steps of the search: what it finds from a place on.
 use Rattle.std.specs.Prelude.{◌≡◌, ℕ, ◌+◌, ℤ, ◌≤ℤ◌, List, [], ◌∷◌, take, slice_set, Option, Some, None}
 use Rattle.qm_model.specs.declared.range.Range.{Range}
-use Rattle.qm_model.specs.declared.variable.Player.TheVariants.{All as Universal}
+use Rattle.qm_model.specs.declared.variable.Player.{Player}
 use Rattle.qm_model.specs.declared.variable.Var.{Var}
 use Rattle.qm_model.specs.declared.game.Problem.{Problem}
 use Rattle.qm_model.specs.Boxes.{IsBox, IsDead}
@@ -10,25 +10,17 @@ use Rattle.qm_game.specs.First.{HasNone}
 use Rattle.qm_trees.specs.declared.empty.Empty.{Empty}
 use Rattle.qm_trees.specs.declared.empty.EmptyPart.{EmptyPart}
 use Rattle.qm_trees.specs.EmptyJudgement.{range_of, below_of}
-use Rattle.qm_trees.specs.EmptyRight.{IsRightEmpty, IsEmptyInRange}
 use Rattle.qm_model.specs.Ranges.{range_at}
-use Rattle.qm_cover.specs.Places.{IsBoxPlace}
+use Rattle.qm_legal.specs.Queries.{AreSet, Shows}
 
--- each universal variable has one value in its range
-abbrev pub AreSet : List Var → List Range → Type 0
-AreSet [] bx = Unit {0}
-AreSet (x ∷ xs) [] = ⊥
-AreSet (x ∷ xs) (r ∷ bx) = (x.player ≡ Universal → r.low ≡ r.high) × AreSet xs bx
+-- the player sets the next variable
+abbrev pub SetsNext : Player → List Var → Type 0
+SetsNext player [] = ⊥
+SetsNext player (x ∷ later) = x.player ≡ player
 
--- the tree is right over the box, where it may split these variables, and no operation leaves
-pub record Shows (P : Problem) (rest : List Var) (depth : ℕ) (bx : List Range) (tree : Empty) : Type 0 where
-  pub right : IsRightEmpty P rest depth bx tree
-  pub in_range : IsEmptyInRange P rest depth bx tree
-
--- A box of the game in which the universal variables before the depth are set, and no uncertainty row is dead; these
--- are the whole variables from the depth on.
-pub record IsSearchPlace (P : Problem) (rest : List Var) (depth : ℕ) (bx : List Range) : Type 0 where
-  pub place : IsBoxPlace P rest depth bx
+-- a box of the game in which the universal variables before the depth are set, and no uncertainty row is dead
+pub record IsAliveBox (P : Problem) (depth : ℕ) (bx : List Range) : Type 0 where
+  pub box : IsBox P.vars bx
   pub set : AreSet (take depth (whole_vars P)) bx
   pub alive : HasNone (IsDead bx) P.urows
 
@@ -43,6 +35,15 @@ pub record IsCompleted (P : Problem) (depth : ℕ) (bx completed : List Range) :
 abbrev pub IsFound : Problem → List Var → ℕ → List Range → List Range → Option Empty → Type 0
 IsFound P rest depth bx after (Some tree) = Shows P rest depth bx tree × (after ≡ bx)
 IsFound P rest depth bx after None = IsCompleted P depth bx after
+
+abbrev pub range_to : ℤ → ℤ → Range
+range_to low high = record { low = low; high = high }
+
+-- the range of one of the values
+pub record IsOneOf (covered one : Range) : Type 0 where
+  pub single : one.low ≡ one.high
+  pub low : covered.low ≤ℤ one.low
+  pub high : one.high ≤ℤ covered.high
 
 -- a part of values from `next` on, below which the tree shows it
 pub record IsPart (P : Problem) (later : List Var) (depth : ℕ) (bx : List Range) (next : ℤ) (part : EmptyPart) : Type 0 where
