@@ -18,7 +18,10 @@ fn budget(alloc: Global, first: u32, count: u32, coef: i128, right: i128) -> Res
 {
     let mut terms = SmallVec::new(alloc);
     for number in 0..count {
-        terms.push(Term::new(first + number, coef))?;
+        terms.push(Term {
+            var: first + number,
+            coef,
+        })?;
     }
     Ok(Row {
         terms: Terms::new(terms),

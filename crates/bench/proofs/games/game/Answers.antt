@@ -2,8 +2,8 @@ use Rattle.std.proofs.Common.{refl}
 use Rattle.bench.proofs.PlainGames.{plain-sound}
 use Rattle.bench.proofs.games.game.Goals as goal
 
-pub new-requires-3 : goal.new-requires-3
-new-requires-3 c =
+pub new-requires : goal.new-requires
+new-requires c =
     plain-sound c.args.universals _
     (record {
       some_universals = c.requires.universals;
