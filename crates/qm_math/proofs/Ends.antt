@@ -6,7 +6,7 @@ use Rattle.qm_math.specs.Arithmetic.{product_of}
 use Rattle.qm_math.specs.Ranges.{IsBetween, least_product, greatest_product}
 use Rattle.qm_math.specs.Sums.{sum_of_each}
 use Rattle.qm_math.specs.Totals.{total_of}
-use Rattle.qm_math.specs.Combinations.{value_at}
+use Rattle.qm_math.specs.Combinations.{dot_product}
 use Rattle.qm_math.specs.Ends.{IsWithin, by_sign, least_multiple, greatest_multiple}
 use Rattle.qm_math.proofs.Between.{least_product_le, le_greatest_product}
 use Rattle.qm_math.proofs.FractionLaws.{product_of-whole, product_of-same, same_sym}
@@ -67,13 +67,13 @@ greatest_multiple-whole (negsuc n) low high = product_of-whole (negsuc n) low
 
 -- ---- over a box
 pub total_of-least_multiple : {C : Type 0} (columns : List C) (k low high x : C → Fraction) → All (λ c. IsWithin (low c) (high c) (x c)) columns
-    → IsAtMost (total_of (λ c. least_multiple (k c) (low c) (high c)) columns) (value_at columns k x)
+    → IsAtMost (total_of (λ c. least_multiple (k c) (low c) (high c)) columns) (dot_product columns k x)
 total_of-least_multiple columns k low high x within =
     total_of-at_most (λ c. least_multiple (k c) (low c) (high c)) (λ c. product_of (k c) (x c)) columns
     (λ i d below. least_multiple-at_most (k (get_or columns i d)) (low (get_or columns i d)) (high (get_or columns i d)) (x (get_or columns i d)) (within i d below))
 
 pub total_of-greatest_multiple : {C : Type 0} (columns : List C) (k low high x : C → Fraction) → All (λ c. IsWithin (low c) (high c) (x c)) columns
-    → IsAtMost (value_at columns k x) (total_of (λ c. greatest_multiple (k c) (low c) (high c)) columns)
+    → IsAtMost (dot_product columns k x) (total_of (λ c. greatest_multiple (k c) (low c) (high c)) columns)
 total_of-greatest_multiple columns k low high x within =
     total_of-at_most (λ c. product_of (k c) (x c)) (λ c. greatest_multiple (k c) (low c) (high c)) columns
     (λ i d below. at_most-greatest_multiple (k (get_or columns i d)) (low (get_or columns i d)) (high (get_or columns i d)) (x (get_or columns i d)) (within i d below))
