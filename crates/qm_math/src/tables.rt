@@ -18,7 +18,7 @@ pub fn a_combination_has_the_rows_values()
 {}
 
 /// Rows that are each at most their bounds at x, combined with numbers that are not negative, are
-/// at most the combined bound.
+/// at most the combined bound: the half of Farkas' lemma by which a combination proves a bound.
 pub fn a_combination_bounds()
     ensures { (rows columns : List ℕ) (y : ℕ → Fraction) (a : ℕ → ℕ → Fraction)
         (b x : ℕ → Fraction) →
@@ -31,7 +31,7 @@ pub fn a_combination_bounds()
 {}
 
 /// If the combined bound is below the least value of the combined row over a box, then no x in the
-/// box meets the rows.
+/// box meets the rows: the half of Farkas' lemma by which a combination refutes rows.
 pub fn a_combination_refutes()
     ensures { (rows columns : List ℕ) (y : ℕ → Fraction) (a : ℕ → ℕ → Fraction)
         (b low high x : ℕ → Fraction) →
