@@ -3,6 +3,7 @@ use Rattle.std.proofs.Common.{◌≡◌, ℕ, ◌+◌, ◌<◌, Bool, true, fals
 use Rattle.std.specs.Prelude.{◌^◌, codes, max}
 use Rattle.std.specs.Fmt.{decimal, signed_decimal}
 use Rattle.std.proofs.lemmas.List.{length-map}
+use Rattle.qm_math.proofs.Lists.{cons-rest}
 use Rattle.qm_model.specs.declared.range.Range.{Range}
 use Rattle.qm_model.specs.declared.row_id.RowId.{RowId}
 use Rattle.qm_model.specs.declared.row_id.RowId.TheVariants as id
@@ -13,7 +14,7 @@ use Rattle.qm_certfile.specs.Lines.{Word, line_text, text_of}
 use Rattle.qm_certfile.specs.Numbers.{greatest, greatest_of_entry, greatest_of_fraction, number_of_row}
 use Rattle.qm_certfile.specs.Styles.{first_style, numbered}
 use Rattle.qm_certfile.specs.TreeLines.{Lines, close_line, entry_word, joined, objective_words}
-use Rattle.qm_certfile.proofs.NumberWords.{AreVisible, Lacks, apart, decimal_same, later_bytes, lacks_decimal, not_empty, number_same, signed_same, split_at_first, visible_append, visible_decimal, visible_number, visible_signed, visible_word}
+use Rattle.qm_certfile.proofs.NumberWords.{AreVisible, Lacks, apart, decimal_same, lacks_decimal, not_empty, number_same, signed_same, split_at_first, visible_append, visible_decimal, visible_number, visible_signed, visible_word}
 use Rattle.qm_certfile.proofs.LineSplits.{AreWords, IsTold, Spells, first_line, first_of_line, parts_told, same_words, visible_words, word_same, words_append, words_behind}
 
 pub wholes_spell : Spells signed_decimal unsigned_abs
@@ -73,15 +74,15 @@ lacks_row (id.Uncertain n) h = (λ e. omega arith, lacks_decimal 61 (λ c p q e.
 lacks_row (id.Cut n) h = (λ e. omega arith, lacks_decimal 61 (λ c p q e. omega arith) (n + 1) h)
 
 row_same : (r s : RowId) → number_of_row r < 10 ^ 64 → number_of_row s < 10 ^ 64 → numbered r ≡ numbered s → r ≡ s
-row_same (id.Row m) (id.Row n) p q e = ap id.Row (omega (arith, decimal_same (m + 1) (n + 1) p q (later_bytes e)))
+row_same (id.Row m) (id.Row n) p q e = ap id.Row (omega (arith, decimal_same (m + 1) (n + 1) p q (cons-rest _ _ _ _ e)))
 row_same (id.Row m) (id.Uncertain n) p q e = absurd (apart 114 117 tt e)
 row_same (id.Row m) (id.Cut n) p q e = absurd (apart 114 99 tt e)
 row_same (id.Uncertain m) (id.Row n) p q e = absurd (apart 117 114 tt e)
-row_same (id.Uncertain m) (id.Uncertain n) p q e = ap id.Uncertain (omega (arith, decimal_same (m + 1) (n + 1) p q (later_bytes e)))
+row_same (id.Uncertain m) (id.Uncertain n) p q e = ap id.Uncertain (omega (arith, decimal_same (m + 1) (n + 1) p q (cons-rest _ _ _ _ e)))
 row_same (id.Uncertain m) (id.Cut n) p q e = absurd (apart 117 99 tt e)
 row_same (id.Cut m) (id.Row n) p q e = absurd (apart 99 114 tt e)
 row_same (id.Cut m) (id.Uncertain n) p q e = absurd (apart 99 117 tt e)
-row_same (id.Cut m) (id.Cut n) p q e = ap id.Cut (omega (arith, decimal_same (m + 1) (n + 1) p q (later_bytes e)))
+row_same (id.Cut m) (id.Cut n) p q e = ap id.Cut (omega (arith, decimal_same (m + 1) (n + 1) p q (cons-rest _ _ _ _ e)))
 
 -- no row is named by the word for the objective
 no_row : (r : RowId) (bs : List ℕ) → numbered r ++ bs ≡ codes "o" → ⊥

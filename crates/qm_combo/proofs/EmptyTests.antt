@@ -43,7 +43,7 @@ module _ (P : Problem) (bx : List Range) (combo : Combination) (entries : AreEnt
 
 -- ---- nodes
 
-splits : (var : ℕ) (parts : List EmptyPart) → out-Empty (Split var parts) ≡ node.Split var parts
+pub splits : (var : ℕ) (parts : List EmptyPart) → out-Empty (Split var parts) ≡ node.Split var parts
 splits var parts = ap out-Empty (sym (rolls-Split var parts)) ∙ out-roll-Empty (node.Split var parts)
 
 closes : (combo : Combination) → out-Empty (Close combo) ≡ node.Close combo

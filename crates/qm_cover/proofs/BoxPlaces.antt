@@ -7,6 +7,7 @@ use Rattle.std.proofs.lemmas.Int.{ints}
 use Rattle.std.proofs.lemmas.List.{drop-take}
 use Rattle.std.proofs.lemmas.Option.{get_or_from_slice_get}
 use Rattle.qm_math.specs.Ranges.{IsBetween}
+use Rattle.qm_math.proofs.WholeTests.{le_of_test, eq_of_test}
 use Rattle.qm_model.specs.declared.range.Range.{Range}
 use Rattle.qm_model.specs.declared.variable.Var.{Var}
 use Rattle.qm_model.specs.declared.game.Problem.{Problem}
@@ -14,7 +15,6 @@ use Rattle.qm_model.specs.Boxes.{IsBox, IsInside}
 use Rattle.qm_model.specs.Ranges.{range_at, single, is_in}
 use Rattle.qm_model.proofs.BoxLaws.{IsBox-set}
 use Rattle.qm_trees.specs.Ranges.{follows_on, same}
-use Rattle.qm_trees.proofs.Lines.{le_of_test}
 use Rattle.qm_trees.proofs.Moves.{between_of}
 use Rattle.qm_cover.proofs.Places.{next_place, same_place}
 use Rattle.qm_cover.specs.Places.{IsBoxPlace}
@@ -87,9 +87,6 @@ within next covered r reached begins some ends =
       };
       goes_on = grind (arith, ints);
     }
-
-eq_of_test : (a b : ℤ) → int_eq a b ≡ true → a ≡ b
-eq_of_test a b e = grind (arith, ints)
 
 pub following : (next : ℤ) (covered : Range) (last : Bool) (r : Range) → covered.low ≤ℤ next → follows_on next covered.high last r ≡ true → Following covered r
 following next covered last r reached e =

@@ -59,7 +59,7 @@ total_of-over d f [] = omega (arith, ints)
 total_of-over d f (x ∷ xs) = over_step d (f x) (sum_of_each f xs) (total_of (λ x. over d (f x)) xs) (total_of-over d f xs)
 
 -- a row of whole numbers at values over one denominator
-value_step : (d : ℕ) (k m n : ℤ) (t : Fraction) → IsSame t (over d n) → IsSame (sum_of (product_of (whole k) (over d m)) t) (over d ((k *ℤ m) +ℤ n))
+pub value_step : (d : ℕ) (k m n : ℤ) (t : Fraction) → IsSame t (over d n) → IsSame (sum_of (product_of (whole k) (over d m)) t) (over d ((k *ℤ m) +ℤ n))
 unfolding sum_of product_of
 value_step d k m n t e =
     ring_from (m ∷ n ∷ pos d ∷ t.num ∷ pos t.den ∷ k ∷ []) ((x5 ⊗ x0 ⊗ x4 ⊕ x3 ⊗ (number (pos 1) ⊗ x2)) ⊗ x2) ((x5 ⊗ x0 ⊕ x1) ⊗ (number (pos 1) ⊗ x2 ⊗ x4))

@@ -5,6 +5,7 @@ use Rattle.std.proofs.lemmas.Bool.{and_parts}
 use Rattle.std.proofs.lemmas.Bool.Decides.{nat_tests}
 use Rattle.std.proofs.lemmas.List.Elements.{All-append, All-head, All-nil, All-same, All-tail}
 use Rattle.std.proofs.Common.{arith}
+use Rattle.std.proofs.lemmas.Option.{cond_some}
 use Rattle.qm_math.specs.Fraction.{Fraction}
 use Rattle.qm_frac.specs.Checked.{Checked}
 use Rattle.qm_model.specs.declared.game.Problem.{Problem}
@@ -42,11 +43,6 @@ narrow-ok part (Some y) x h = cc
 
 pub same_ok : {A : Type 0} (x y : A) → (let z : Result A NormalFault = Ok x in z) ≡ Ok y → x ≡ y
 same_ok x y h = cc
-
--- a choice that has something took the first way
-pub chosen_some : {A : Type 0} (b : Bool) (x y : A) → cond b (Some x) None ≡ Some y → (b ≡ true) × (x ≡ y)
-chosen_some true x y h = (refl, cc)
-chosen_some false x y h = absurd (cc)
 
 -- ---- the parts of a normal form
 
@@ -101,7 +97,7 @@ pub row_parts : (vars : List Var) (order : List Named) (terms : List AstTerm) (r
 unfolding normal_row
 row_parts vars order terms right row h =
     let sums = sums_narrow vars right (totals order terms) row h in
-    let made = chosen_some (is_narrow vars (common_denominator (right ∷ sums.0)) (row_times (common_denominator (right ∷ sums.0)) sums.0 right)) (row_times (common_denominator (right ∷ sums.0)) sums.0 right) row sums.2 in
+    let made = cond_some (is_narrow vars (common_denominator (right ∷ sums.0)) (row_times (common_denominator (right ∷ sums.0)) sums.0 right)) (row_times (common_denominator (right ∷ sums.0)) sums.0 right) row sums.2 in
     record { sums = sums.0; sums_are = sums.1; narrow = made.0; row_is = made.1 }
 
 both_le : (a b n : ℕ) → (nat_le a n && nat_le b n) ≡ true → (a ≤ n) × (b ≤ n)

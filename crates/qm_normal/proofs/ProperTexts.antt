@@ -22,8 +22,9 @@ use Rattle.qm_parse.specs.Parts.{◌then◌, BoundOf, BoundBody, BoundEnds, Cons
 use Rattle.qm_parse.specs.Reading.{empty_ast}
 use Rattle.qm_parse.specs.Texts.{IsText, SectionOf, TextOf, Written, WrittenText, with_names, with_written}
 use Rattle.qm_parse.specs.Texts.Written.{Uncertain, Bounded, Listed}
+use Rattle.qm_parse.proofs.KnownRows.{second}
 use Rattle.qm_normal.specs.Numbers.{HasProperNumbers, IsProperRow, IsProperTerm}
-use Rattle.qm_normal.proofs.ProperParts.{AreProper, Given, Gives, first, gives-Each, gives-Either, gives-NameAt, gives-Nothing, gives-NumberAt, gives-Says, gives-Signed, gives-SignedNumber, gives-SignedTerm, gives-one, gives-then, second, signed_is}
+use Rattle.qm_normal.proofs.ProperParts.{AreProper, Given, Gives, first, gives-Each, gives-Either, gives-NameAt, gives-Nothing, gives-NumberAt, gives-Says, gives-Signed, gives-SignedNumber, gives-SignedTerm, gives-one, gives-then, signed_is}
 
 -- ---- terms and rows
 

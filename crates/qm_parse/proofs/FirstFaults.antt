@@ -1,5 +1,6 @@
 -- What is not read has a first fault. That what is read is a text is a premise here.
 use Rattle.std.proofs.Common.{◌≡◌, ◌≢◌, ℕ, Bool, true, false, List, [], ◌∷◌, ◌++◌, ◌⊎◌, ◌↔◌, inl, inr, Option, Some, None, Ok, Err, All, suc, refl, sym, ap, subst, ◌∙◌, append_assoc, append-nil, arith}
+use Rattle.std.proofs.lemmas.Bool.{cases_Bool}
 use Rattle.qm_lex.specs.declared.place.Place.{Place}
 use Rattle.qm_parse.specs.declared.ast.Ast.{Ast}
 use Rattle.qm_parse.specs.declared.draft.Draft.{Draft}
@@ -112,15 +113,11 @@ word_cases (Reserved word) = inr (inr (λ n labels e. absurd cc))
 word_cases Infinite = inr (inr (λ n labels e. absurd cc))
 word_cases Free = inr (inr (λ n labels e. absurd cc))
 
-bool_cases : (b : Bool) → (b ≡ true) ⊎ (b ≡ false)
-bool_cases true = inl refl
-bool_cases false = inr refl
-
 closes_last : (state next : State) (symbol : Symbol) → next_state state symbol ≡ Some next → leaves symbol.word ≡ false → Closes state (symbol ∷ [])
 closes_last state next symbol moves stays =
     elim (word_cases symbol.word) [
       | inl label ↦
-          elim (bool_cases (is_label next.stage)) [
+          elim (cases_Bool (is_label next.stage)) [
             | inl is ↦ closes_as_it_is state next symbol moves stays (label_knows symbol label.0 (ending next.stage next.seen.order) label.1 (ending_label next.stage next.seen.order is))
             | inr other ↦ closes_unlabelled state next symbol label.0 label.1 other moves stays
           ]
@@ -343,7 +340,7 @@ fault_behind written_is state front (symbol ∷ symbols) draft end fault reached
     elim (next_cases state symbol) [
       | inl none ↦ may_not_follow written_is state front symbols symbol draft end fault reached ranges colons none e
       | inr some ↦
-          elim (bool_cases (leaves symbol.word)) [
+          elim (cases_Bool (leaves symbol.word)) [
             | inl leaving ↦ number_leaves written_is state some.0 front symbols symbol draft end fault reached ranges colons some.1 leaving e
             | inr stays ↦
                 let regrouped = append_assoc front (symbol ∷ []) symbols in

@@ -1,6 +1,7 @@
 -- Small lists of symbols, judged by the definitions.
 use Rattle.std.proofs.Common.{◌≡◌, ◌≢◌, ℕ, zero, suc, pos, Bool, true, false, List, [], ◌∷◌, ◌++◌, inl, inr, Some, None, AllPairs, Err, refl, sym, ap, ◌∙◌, arith}
 use Rattle.qm_math.specs.Fraction.{Fraction}
+use Rattle.qm_math.proofs.Lists.{cons-nonempty}
 use Rattle.qm_lex.specs.declared.place.Place.{Place}
 use Rattle.qm_lex.specs.declared.token.Keyword.{Keyword}
 use Rattle.qm_lex.specs.declared.token.Keyword.TheVariants as keyword
@@ -81,9 +82,6 @@ labelled = record {
 no_nil : (term : AstTerm) (terms : List AstTerm) → term ∷ terms ≢ []
 no_nil term terms e = absurd cc
 
-no_signs : (minus : Bool) (signs : List Bool) → minus ∷ signs ≢ []
-no_signs minus signs e = absurd cc
-
 a_labelled_row : RowOf labelled labelled_row closing
 unfolding signed_by
 a_labelled_row = (
@@ -97,7 +95,7 @@ a_labelled_row = (
       (
         _,
         ([], inl refl, (_, refl, (two, 1, refl, refl, (_, inl (refl, refl), ((false, refl), refl, refl))))),
-        (_, (true ∷ [], inr (no_signs true []), (_, (_, (refl, refl), refl), (one, 2, refl, refl, (_, inr (refl, refl), ((false, refl), refl, refl))))), refl),
+        (_, (true ∷ [], inr (cons-nonempty true []), (_, (_, (refl, refl), refl), (one, 2, refl, refl, (_, inr (refl, refl), ((false, refl), refl, refl))))), refl),
       ),
       (_, (refl, refl), (_, (true ∷ [], (_, (_, (refl, refl), refl), (two, refl, (refl, refl)))), (inl refl, refl))),
     ),

@@ -37,12 +37,7 @@ pub fn list_of(alloc: Global, values: &[i64]) -> Result<List<i64>, Memory>
 }
 
 /// Values that complete this value of the next variable, or why no universal play has it. The box stays as it was.
-pub fn legality(
-    alloc: Global,
-    here: Place<'_>,
-    bx: &mut Bx,
-    value: i64,
-) -> Result<Legality, Memory>
+pub fn legality(alloc: Global, here: Place<'_>, bx: &mut Bx, value: i64) -> Result<Legality, Memory>
     requires bx { IsSearchBox here.game.now here.depth bx.old }
     requires some { 0 < length here.rest.now }
     requires within { IsBetween (range_at bx.old here.depth).low (range_at bx.old here.depth).high value }

@@ -1,5 +1,5 @@
 -- The multipliers of the slacks make entries of a combination.
-use Rattle.std.proofs.Common.{◌≡◌, refl, sym, ap, subst, ℕ, zero, suc, ◌+◌, ◌-◌, ◌<◌, ◌≤◌, ⊎_elim, Bool, true, false, List, [], ◌∷◌, ◌++◌, length, drop, arith, All, Option, Some, None, Ok, ℤ, pos, ◌<ℤ◌, ◌≤ℤ◌, if◌then◌else◌, int_lt, nat_lt}
+use Rattle.std.proofs.Common.{◌≡◌, refl, sym, ap, subst, ℕ, zero, suc, ◌+◌, ◌-◌, ◌<◌, ◌≤◌, ⊎_elim, Bool, true, false, List, [], ◌∷◌, ◌++◌, length, drop, arith, All, Option, Some, None, Ok, ℤ, pos, ◌<ℤ◌, if◌then◌else◌, int_lt, nat_lt}
 use Rattle.std.specs.Prelude.{◌==◌}
 use Rattle.std.specs.Ordering.{int_eq}
 use Rattle.std.proofs.lemmas.Int.{ints}
@@ -181,9 +181,6 @@ none_positive rows leaving (t ∷ ts) k h = by_test (int_lt (pos 0) t.num) refl 
     by_test false e later g = All-cons IsNone t ts (not_positive t e) (later g)
 
 -- ---- what the choice says
-le_of_test : (a b : ℤ) → int_lt a b ≡ false → b ≤ℤ a
-le_of_test a b e = grind (arith, ints)
-
 -- the row that can't be raised: its constant is negative and no other number positive
 pub record IsVoidRow (t : Table) (r : ℕ) : Type 0 where
   pub from : 1 ≤ r

@@ -14,7 +14,7 @@ use Rattle.qm_math.proofs.FractionRing.{same_by_ring}
 use Rattle.qm_math.proofs.FractionLinear.{at_most_given, below_given, same_given}
 use Rattle.qm_math.proofs.Compare.{at_most_both, at_most_or_below, at_most_trans}
 use Rattle.qm_math.proofs.FractionOrder.{at_most-same, at_most_refl, product_of-at_most}
-use Rattle.qm_math.proofs.FractionLaws.{difference_of_den, one-product_of, product_of_den, same_sym, same_trans, sum_of_den, whole_den, zero-sum_of}
+use Rattle.qm_math.proofs.FractionLaws.{difference_of_den, one-product_of, product_of_den, same_sym, same_trans, sum_of_den, whole_den, zero-sum_of, whole_quotient_den}
 use Rattle.qm_math.proofs.Totals.{append_step}
 use Rattle.qm_model.specs.declared.range.Range.{Range}
 use Rattle.qm_model.specs.declared.row.Row.{Row}
@@ -32,7 +32,7 @@ use Rattle.qm_tableau.proofs.Exactness.{entry_den}
 use Rattle.qm_trees.specs.Entries.{Weighted, weighted_rows}
 use Rattle.qm_trees.specs.Evaluation.{bound_of, combined_coefficient, least_combined, least_end_by, least_form, right_side}
 use Rattle.qm_trees.specs.BoxPoints.{HoldsAt, IsInBox, form_of, objective_of}
-use Rattle.qm_trees.proofs.CombinationSound.{combined_coefficient_den, combined_right, combined_right_den, combined_row_at, combined_row_at_den, form_of-difference, form_of-nothing, least_combined_den, objective-at_most, objective_den, quotient_of-at_most, right_side_den, whole_quotient_den}
+use Rattle.qm_trees.proofs.CombinationSound.{combined_coefficient_den, combined_right, combined_right_den, combined_row_at, combined_row_at_den, form_of-difference, form_of-nothing, least_combined_den, objective-at_most, objective_den, quotient_of-at_most, right_side_den}
 use Rattle.qm_simplex.specs.declared.answers.LpEnd.{LpEnd}
 use Rattle.qm_simplex.specs.declared.answers.LpEnd.TheVariants.{Best}
 use Rattle.qm_simplex.specs.Multipliers.{closing_combination, closing_entries, multiplier, slack_rows, slacks_start}

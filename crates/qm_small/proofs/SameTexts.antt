@@ -3,6 +3,7 @@ use Rattle.std.proofs.Common.{◌≡◌, ◌≢◌, ℕ, ◌≤◌, Bool, true, 
 use Rattle.std.specs.Prelude.{codes}
 use Rattle.std.proofs.lemmas.List.Elements.{All-cons, All-nil, All-weaker}
 use Rattle.std.proofs.lemmas.List.Kept.{AllPairs-cons}
+use Rattle.std.proofs.lemmas.Bool.{true≢false}
 use Rattle.qm_lex.specs.declared.token.Keyword.{Keyword}
 use Rattle.qm_lex.specs.declared.token.Keyword.TheVariants as keyword
 use Rattle.qm_lex.specs.declared.token.Kind.TheVariants as kind
@@ -71,14 +72,11 @@ pub record IsOptional (names written : List (List ℕ)) (is_written : Bool) (nam
 abbrev OptionalSection : NameList → Bool × List Named → Part
 OptionalSection list found = Each SectionOf (where_written found.0 (Listed list found.1))
 
-false_true : true ≡ false → ⊥
-false_true e = absurd cc
-
 optional_section : (names : List (List ℕ)) (spelling : List ℕ) (word : Keyword) (list : NameList) → kind_of spelling ≡ kind.Keyword word → IsHeading list word → (written : List (List ℕ)) (ws rest : List Spelling) (symbols : List Symbol)
     → small.OptionalNames spelling written ws rest → AreMeant names ws symbols → Finds names rest (λ (found : Bool × List Named). IsOptional names written found.0 found.1) (OptionalSection list) symbols
 optional_section names spelling word list is heads written ws rest symbols (inl p) meant =
     let found = name_section names spelling word list is heads written ws rest symbols p meant in
-    ((true, found.0), record { named_is = found.1; none = λ e. absurd (false_true e) }, found.2, (found.2, found.3, refl), found.4)
+    ((true, found.0), record { named_is = found.1; none = λ e. absurd (true≢false e) }, found.2, (found.2, found.3, refl), found.4)
 optional_section names spelling word list is heads written ws rest symbols (inr p) meant =
     let P : List (List ℕ) → Type 0 = λ w. Both (NamedIs names) w [] in
     ((false, []), record { named_is = subst P (sym p.0) tt; none = λ e. refl }, symbols, refl, subst (λ r. AreMeant names r symbols) p.1 meant)

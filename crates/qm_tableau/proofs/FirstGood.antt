@@ -13,6 +13,7 @@ use Rattle.qm_math.proofs.SameLists.{all_same_sym}
 use Rattle.qm_model.specs.declared.range.Range.{Range}
 use Rattle.qm_model.specs.declared.row.Row.{Row}
 use Rattle.qm_model.specs.declared.game.Problem.{Problem}
+use Rattle.qm_model.proofs.BoxForms.{no_range}
 use Rattle.qm_tableau.specs.Tables.{entry_of, row_at}
 use Rattle.qm_tableau.specs.Quantities.{Quantity, bound_quantities, coefficient_in, objective_quantity, quantities, slack_quantity, turned, whole_value}
 use Rattle.qm_tableau.specs.FirstTable.{columns_from, corner, first_row, first_table, numbers_from, raises}
@@ -77,9 +78,6 @@ place_below : (b : Bool) (j n m : ℕ) → j < n → place b j < 1 + 2 * n + m
 unfolding place
 place_below true j n m h = omega (arith, h)
 place_below false j n m h = omega (arith, h)
-
-no_range : Range
-no_range = record { low = pos 0; high = pos 0 }
 
 -- ---- the values of the columns' quantities are the distances from the corner
 distances : (var : ℕ) (highs : List Bool) (bx : List Range) (xs vs : List Fraction) → length highs ≡ length bx → length xs ≡ length bx

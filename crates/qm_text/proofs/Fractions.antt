@@ -3,11 +3,10 @@ use Rattle.std.proofs.Common.{◌≡◌, ◌≢◌, ℕ, zero, suc, ◌<◌, ◌
 use Rattle.std.specs.Prelude.{Result, MatchResult, Option, Some, None}
 use Rattle.std.specs.Option.{SomeIff, ok_or}
 use Rattle.qm_frac.proofs.Terms.{lowest_again, in_range_small}
-use native.Mathlib.Nat.{one-dvd}
 use Rattle.qm_math.specs.Fraction.{Fraction}
 use Rattle.qm_frac.specs.Gcd.{gcd_of}
 use Rattle.qm_frac.specs.Lowest.{IsInRange, lowest}
-use Rattle.qm_frac.proofs.Divisors.{gcd_from_IsGcd}
+use Rattle.qm_frac.proofs.Divisors.{gcd_of-one}
 use Rattle.qm_text.specs.declared.fault.NumberFault.{NumberFault}
 use Rattle.qm_text.specs.declared.fault.NumberFault.TheVariants as fault
 use Rattle.qm_text.specs.Numbers.{SpellsNatural, SpellsWhole, SpellsQuotient, SpellsFraction}
@@ -19,9 +18,6 @@ use Rattle.qm_text.proofs.Slashes.{whole_no_slash, slash_stands, split_one}
 
 over : ℤ → ℕ → Fraction
 over n d = record { num = n; den = d }
-
-pub gcd_one : (n : ℕ) → gcd_of n 1 ≡ 1
-gcd_one n = gcd_from_IsGcd n 1 1 (one-dvd n, one-dvd 1, λ d p q. q)
 
 whole_is_no_quotient : (word : List ℕ) (z : ℤ) (a : Fraction) → SpellsWhole word z → ¬ SpellsQuotient word a
 whole_is_no_quotient word z a whole q = slash_stands q.above q.below (subst HasNoSlash q.parts (whole_no_slash word z whole))
@@ -65,7 +61,7 @@ over_one_ok word n (Ok r) h is =
     let small : SmallWhole n = subst SmallWhole (sym read.3) read.2 in
     rw is.0 (reads_ok (SpellsFraction word) IsInRange (λ a. a) (fraction_one word) (record { num = n; den = 1 }) (inl (spells, refl))
     (record { num_fits = small; den_fits = omega arith }))
-over_one_ok word n (Err e) h is = absurd (is.1 (gcd_one (unsigned_abs n)))
+over_one_ok word n (Err e) h is = absurd (is.1 (gcd_of-one (unsigned_abs n)))
 
 -- ---- a quotient
 

@@ -4,10 +4,10 @@ use Rattle.std.proofs.lemmas.List.{length-drop, length-set}
 use mir.Syntax.{w128}
 use mir.Val.{SFits}
 use Rattle.std.specs.Prelude.{IsSomeAnd, int_le, slice_get}
+use Rattle.qm_math.proofs.WholeTests.{le_of_test}
 use Rattle.qm_model.specs.declared.variable.Player.TheVariants.{Exists, All as Universal}
 use Rattle.qm_model.specs.Boxes.{IsDead}
 use Rattle.qm_model.proofs.Players.{exists_of}
-use Rattle.qm_trees.proofs.Lines.{le_of_test}
 use Rattle.qm_cover.proofs.Places.{put_back}
 use Rattle.qm_legal.proofs.Boxes.{one_inside, set_in_box}
 use Rattle.qm_legal.proofs.Places.{alive_behind, alive_behind_value, completed_at_end, completed_behind_value, found_behind_if, next_below, part_from, reached_more, sets_next, some_next}
