@@ -29,16 +29,16 @@ row_is_narrow xs row over = record {
   right = omega (arith, over.size);
 }
 
--- an item that is there has what all have
-there : {X : Type 0} (Q : X → Type 0) (xs : List X) (n : ℕ) → All Q xs → IsSome (slice_get xs n) → IsSomeAnd (slice_get xs n) Q
-there Q [] n all some = cc
-there Q (x ∷ xs) zero all some = All-head Q x xs all
-there Q (x ∷ xs) (suc n) all some = there Q xs n (All-tail Q x xs all) some
+-- an item that is all_at has what all have
+all_at : {X : Type 0} (Q : X → Type 0) (xs : List X) (n : ℕ) → All Q xs → IsSome (slice_get xs n) → IsSomeAnd (slice_get xs n) Q
+all_at Q [] n all some = cc
+all_at Q (x ∷ xs) zero all some = All-head Q x xs all
+all_at Q (x ∷ xs) (suc n) all some = all_at Q xs n (All-tail Q x xs all) some
 
 named_is_narrow : (P : Problem) (cuts : List Row) → IsSound P → All (IsRowOver P.vars) cuts → (row : RowId) → IsSome (row_named P cuts row) → IsSomeAnd (row_named P cuts row) IsNarrow
-named_is_narrow P cuts sound over (id.Row n) some = there IsNarrow P.rows n (λ k d h. row_is_narrow P.vars (get_or P.rows k d) (sound.rows k d h)) some
-named_is_narrow P cuts sound over (id.Uncertain n) some = there IsNarrow P.urows n (λ k d h. row_is_narrow P.vars (get_or P.urows k d) (sound.urows k d h)) some
-named_is_narrow P cuts sound over (id.Cut n) some = there IsNarrow cuts n (λ k d h. row_is_narrow P.vars (get_or cuts k d) (over k d h)) some
+named_is_narrow P cuts sound over (id.Row n) some = all_at IsNarrow P.rows n (λ k d h. row_is_narrow P.vars (get_or P.rows k d) (sound.rows k d h)) some
+named_is_narrow P cuts sound over (id.Uncertain n) some = all_at IsNarrow P.urows n (λ k d h. row_is_narrow P.vars (get_or P.urows k d) (sound.urows k d h)) some
+named_is_narrow P cuts sound over (id.Cut n) some = all_at IsNarrow cuts n (λ k d h. row_is_narrow P.vars (get_or cuts k d) (over k d h)) some
 
 abs_at_most : (z : ℤ) → pos 1 ≤ℤ z → z ≤ℤ pos (2 ^ 126) → (0 < unsigned_abs z) × (unsigned_abs z < 2 ^ 127)
 abs_at_most z some few = (omega (arith, ints), omega (arith, ints))

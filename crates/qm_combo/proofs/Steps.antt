@@ -6,6 +6,7 @@ use Rattle.std.specs.Ordering.{int_eq}
 use Rattle.std.proofs.lemmas.List.{at_drop_more}
 use Rattle.std.proofs.lemmas.Bool.{false_from_ne_true}
 use Rattle.qm_math.specs.Fraction.{Fraction, whole}
+use Rattle.qm_frac.proofs.CheckedLaws.{and_then-Ok, and_then_assoc}
 use Rattle.qm_frac.specs.Checked.{Checked, and_then, added, multiplied}
 use Rattle.qm_model.specs.declared.row.Row.{Row}
 use Rattle.qm_model.specs.declared.range.Range.{Range}
@@ -18,12 +19,7 @@ use Rattle.qm_trees.specs.Evaluation.{zero, add_coefficients, add_least, add_var
 use Rattle.qm_combo.proofs.NamedRows.{weighted_more}
 
 pub and_then_ok : {A : Type 0} (x : Checked A) → and_then x (λ a. Ok a) ≡ x
-and_then_ok (Ok a) = refl
-and_then_ok (Err e) = refl
-
-pub and_then_assoc : {A B C : Type 0} (x : Checked A) (f : A → Checked B) (g : B → Checked C) → and_then x (λ a. and_then (f a) g) ≡ and_then (and_then x f) g
-and_then_assoc (Ok a) f g = refl
-and_then_assoc (Err e) f g = refl
+and_then_ok x = and_then-Ok x
 
 skipped_or : (b : Bool) (x : Checked Fraction) (c : Fraction) (f : Fraction → Checked Fraction) (next : Fraction → Checked Fraction)
     → (let y : Checked Fraction = if b then next c else and_then x (λ p. and_then (f p) next) in y)
@@ -56,8 +52,8 @@ pub variables_at : (P : Problem) (objective : Bool) (ws : List Weighted) (bx : L
     (λ c. and_then (add_least c (get_or bx i d) s) (λ t. add_variables P objective ws (i + 1) (drop (i + 1) bx) t))
 variables_at P objective ws bx i d s h =
     at_drop_more (λ rs. add_variables P objective ws i rs s) bx i d h
-    ∙ and_then_assoc (add_coefficients i ws zero) (λ a. less_objective P objective i a)
-    (λ c. and_then (add_least c (get_or bx i d) s) (λ t. add_variables P objective ws (suc i) (drop (i + 1) bx) t))
+    ∙ sym (and_then_assoc (add_coefficients i ws zero) (λ a. less_objective P objective i a)
+    (λ c. and_then (add_least c (get_or bx i d) s) (λ t. add_variables P objective ws (suc i) (drop (i + 1) bx) t)))
     ∙ rw add-one refl
 
 -- the coefficient of the variable i leaves

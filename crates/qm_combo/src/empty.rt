@@ -62,12 +62,12 @@ fn test_split(here: Place<'_>, bx: &mut Bx, parts: &[EmptyPart]) -> Result<bool,
     if !is_for_all(&here.rest[0]) || !count_is_right(covered, parts.len()) {
         return Ok(false);
     }
-    test_each(here, bx, covered, parts)
+    test_split_parts(here, bx, covered, parts)
 }
 
 /// Whether the parts' ranges follow on from the low to the high end, and the tree below each passes.
 #[cycle(test_empty)]
-fn test_each(
+fn test_split_parts(
     here: Place<'_>,
     bx: &mut Bx,
     covered: Range,
@@ -107,7 +107,7 @@ fn test_part(here: Place<'_>, bx: &mut Bx, follows: bool, part: &EmptyPart) -> R
 
 /// The same behind the next variable, once it has this range.
 #[cycle(test_empty)]
-#[tactic(auto, using(qm_cover::proofs::BoxPlaces::box_narrowed))]
+#[tactic(auto, using(qm_cover::proofs::BoxPlaces::box_narrowed, qm_cover::proofs::Places::put_back_at))]
 fn test_below(here: Place<'_>, bx: &mut Bx, range: Range, tree: &Empty) -> Result<bool, Leaves>
     requires bx { IsBox here.game.now.vars bx.old }
     requires some { 0 < length here.rest.now }

@@ -19,29 +19,29 @@ pub fn is_last<T>(parts: &[T], at: usize) -> bool
     at + 1 == parts.len()
 }
 
-fn equal(a: i64, b: i64) -> bool
+fn is_equal(a: i64, b: i64) -> bool
     ensures { result ≡ int_eq a b }
 {
     a == b
 }
 
 /// Whether the range begins at `next` and has a value.
-fn begins(next: i128, range: Range) -> bool
+fn begins_at(next: i128, range: Range) -> bool
     ensures { result ≡ (int_eq range.low next && int_le range.low range.high) }
 {
     i128::from(range.low) == next && range.low <= range.high
 }
 
 /// Whether the range stays below the high end, and reaches it exactly if it is the last.
-fn ends(covered: Range, is_last: bool, range: Range) -> bool
+fn reaches_high_if_last(covered: Range, is_last: bool, range: Range) -> bool
     ensures { result ≡ (int_le range.high covered.high && same is_last (int_eq range.high covered.high)) }
 {
-    range.high <= covered.high && is_last == equal(range.high, covered.high)
+    range.high <= covered.high && is_last == is_equal(range.high, covered.high)
 }
 
 /// Whether the range begins at `next`, has a value, and reaches the high end exactly if it is the last.
 pub fn follows(next: i128, covered: Range, is_last: bool, range: Range) -> bool
     ensures { result ≡ follows_on next covered.high is_last range }
 {
-    begins(next, range) && ends(covered, is_last, range)
+    begins_at(next, range) && reaches_high_if_last(covered, is_last, range)
 }

@@ -9,7 +9,9 @@ use Rattle.qm_math.specs.Fraction.{Fraction, whole, is_at_most}
 use Rattle.qm_frac.specs.Checked.{Checked, and_then, added, multiplied}
 use Rattle.qm_frac.specs.declared.leaves.Leaves.{Leaves}
 use Rattle.qm_frac.specs.Lowest.{IsInRange, lowest_terms, lowest_parts}
+use Rattle.qm_frac.proofs.CheckedLaws.{and_then_assoc}
 use Rattle.qm_frac.proofs.SignLaws.{signed_abs}
+use Rattle.qm_model.proofs.Sizes.{one_le_reach}
 use Rattle.qm_frac.proofs.Terms.{in_range_small}
 use Rattle.qm_frac.proofs.Divisors.{gcd_of-one}
 use Rattle.qm_model.specs.declared.range.Range.{Range}
@@ -29,6 +31,7 @@ use Rattle.qm_model.specs.declared.game.Problem.{Problem}
 use Rattle.qm_policy.specs.Parts.{judge_answer}
 use Rattle.qm_policy.specs.Steps.{add_term}
 
+-- a whole number is in lowest terms
 pub lowest_whole : (n : ℤ) → lowest_terms n (pos 1) ≡ whole n
 unfolding lowest_parts
 lowest_whole n = rw (gcd_of-one (unsigned_abs n), div-one, signed_abs) refl
@@ -36,13 +39,13 @@ lowest_whole n = rw (gcd_of-one (unsigned_abs n), div-one, signed_abs) refl
 pub whole_in_range : (n : ℤ) → unsigned_abs n < 2 ^ 127 → IsInRange (lowest_terms n (pos 1))
 whole_in_range n h = in_range_small n 1 h (omega arith)
 
--- a policy that answers
-answers : (parts : List PolicyPart) → out-Policy (Answer parts) ≡ node.Answer parts
-answers parts = ap out-Policy (sym (rolls-Answer parts)) ∙ out-roll-Policy (node.Answer parts)
+-- a policy that out-of-Answer
+out-of-Answer : (parts : List PolicyPart) → out-Policy (Answer parts) ≡ node.Answer parts
+out-of-Answer parts = ap out-Policy (sym (rolls-Answer parts)) ∙ out-roll-Policy (node.Answer parts)
 
 pub answer_judged : (P : Problem) (v : Fraction) (rest : List Var) (depth : ℕ) (bx : List Range) (policy : Policy) (parts slice : List PolicyPart) → policy ≡ Answer parts → slice ≡ parts
     → answer_of (judge_answer P v rest depth bx slice) ≡ answer_of (judge_policy P v rest depth bx policy)
-answer_judged P v rest depth bx policy parts slice is same = by rest (ap out-Policy is ∙ answers parts ∙ sym (ap (λ ps. node.Answer ps) same))
+answer_judged P v rest depth bx policy parts slice is same = by rest (ap out-Policy is ∙ out-of-Answer parts ∙ sym (ap (λ ps. node.Answer ps) same))
   where
     by : (xs : List Var) → out-Policy policy ≡ node.Answer slice → answer_of (judge_answer P v xs depth bx slice) ≡ answer_of (judge_policy P v xs depth bx policy)
     by [] layer = rw layer refl
@@ -62,23 +65,19 @@ bounds_more xs ys i x y h k is at within =
 
 -- ---- sums of terms
 
-and_then_assoc : {A B C : Type 0} (x : Checked A) (f : A → Checked B) (g : B → Checked C) → and_then (and_then x f) g ≡ and_then x (λ y. and_then (f y) g)
-and_then_assoc (Ok y) f g = refl
-and_then_assoc (Err leaves) f g = refl
-
 module _ (value : Term → Fraction) (ts : List Term) (i : ℕ) (t : Term) (s : Fraction) (full : Checked Fraction) (h : i < length ts) (is : t ≡ get_or ts i t)
     (whole_sum : add_terms value (drop i ts) s ≡ full) where
-  terms_here : and_then (add_term value t s) (λ r. add_terms value (drop (i + 1) ts) r) ≡ full
-  terms_here =
+  term_then_others : and_then (add_term value t s) (λ r. add_terms value (drop (i + 1) ts) r) ≡ full
+  term_then_others =
       let split : drop i ts ≡ t ∷ drop (i + 1) ts = drop_more ts i t h ∙ ap (λ u. u ∷ drop (i + 1) ts) (sym is) in
       and_then_assoc (multiplied (whole t.coef) (value t)) (λ p. added s p) (λ r. add_terms value (drop (i + 1) ts) r)
       ∙ sym (ap (λ us. add_terms value us s) split) ∙ whole_sum
 
   pub term_leaves : (leaves : Leaves) → Err leaves ≡ add_term value t s → Err leaves ≡ full
-  term_leaves leaves e = ap (λ x. and_then x (λ r. add_terms value (drop (i + 1) ts) r)) e ∙ terms_here
+  term_leaves leaves e = ap (λ x. and_then x (λ r. add_terms value (drop (i + 1) ts) r)) e ∙ term_then_others
 
   pub term_added : (r : Fraction) → Ok r ≡ add_term value t s → add_terms value (drop (i + 1) ts) r ≡ full
-  term_added r e = ap (λ x. and_then x (λ q. add_terms value (drop (i + 1) ts) q)) e ∙ terms_here
+  term_added r e = ap (λ x. and_then x (λ q. add_terms value (drop (i + 1) ts) q)) e ∙ term_then_others
 
 -- ---- sizes
 

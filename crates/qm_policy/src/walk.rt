@@ -81,12 +81,12 @@ fn test_answer(
     if !is_for_all(&here.rest[0]) || !count_is_right(covered, parts.len()) {
         return Ok(false);
     }
-    test_each(here, bx, value, covered, parts)
+    test_answer_parts(here, bx, value, covered, parts)
 }
 
 /// Whether the parts' ranges follow on from the low to the high end, and what stands below each passes.
 #[cycle(test)]
-fn test_each(
+fn test_answer_parts(
     here: Place<'_>,
     bx: &mut Bx,
     value: Frac,
@@ -137,7 +137,7 @@ fn test_part(
 
 /// The same behind the next variable, once it has this range.
 #[cycle(test)]
-#[tactic(auto, using(qm_cover::proofs::BoxPlaces::box_narrowed))]
+#[tactic(auto, using(qm_cover::proofs::BoxPlaces::box_narrowed, qm_cover::proofs::Places::put_back_at))]
 fn test_below(
     here: Place<'_>,
     bx: &mut Bx,
@@ -159,7 +159,7 @@ fn test_below(
 }
 
 /// Whether the tree shows that no universal play has its values in the box, once the next variable has this range.
-#[tactic(auto, using(qm_cover::proofs::BoxPlaces::box_narrowed))]
+#[tactic(auto, using(qm_cover::proofs::BoxPlaces::box_narrowed, qm_cover::proofs::Places::put_back_at))]
 fn test_illegal(here: Place<'_>, bx: &mut Bx, range: Range, tree: &Empty) -> Result<bool, Leaves>
     requires bx { IsBox here.game.now.vars bx.old }
     requires some { 0 < length here.rest.now }

@@ -24,36 +24,36 @@ fixed_none (x ∷ xs) [] = refl
 fixed_none (x ∷ xs) (r ∷ bx) = refl
 
 -- at an existential variable its range stays
-pub skipped : (x : Var) (xs : List Var) (depth : ℕ) (bx : List Range) (us : List ℤ) → is_universal x ≡ false → depth < length bx
+pub existential_range_stays : (x : Var) (xs : List Var) (depth : ℕ) (bx : List Range) (us : List ℤ) → is_universal x ≡ false → depth < length bx
     → take (depth + 1) bx ++ fixed xs (drop (depth + 1) bx) us ≡ take depth bx ++ fixed (x ∷ xs) (drop depth bx) us
-skipped x xs depth [] us e below = absurd (omega (arith, below))
-skipped x xs zero (r ∷ bx) [] e below = ap (λ rs. r ∷ rs) (fixed_none xs bx)
-skipped x xs zero (r ∷ bx) (u ∷ us) e below = rw e refl
-skipped x xs (suc depth) (r ∷ bx) us e below = let up : suc depth + 1 ≡ suc (depth + 1) = omega arith in rw up (ap (λ rs. r ∷ rs) (skipped x xs depth bx us e (omega (arith, below))))
+existential_range_stays x xs depth [] us e below = absurd (omega (arith, below))
+existential_range_stays x xs zero (r ∷ bx) [] e below = ap (λ rs. r ∷ rs) (fixed_none xs bx)
+existential_range_stays x xs zero (r ∷ bx) (u ∷ us) e below = rw e refl
+existential_range_stays x xs (suc depth) (r ∷ bx) us e below = let up : suc depth + 1 ≡ suc (depth + 1) = omega arith in rw up (ap (λ rs. r ∷ rs) (existential_range_stays x xs depth bx us e (omega (arith, below))))
 
 -- at a universal one the next value is picked
-pub taken : (x : Var) (xs : List Var) (depth : ℕ) (bx : List Range) (u : ℤ) (us : List ℤ) → is_universal x ≡ true → depth < length bx
+pub universal_value_is_picked : (x : Var) (xs : List Var) (depth : ℕ) (bx : List Range) (u : ℤ) (us : List ℤ) → is_universal x ≡ true → depth < length bx
     → picked depth xs bx u us ≡ take depth bx ++ fixed (x ∷ xs) (drop depth bx) (u ∷ us)
-taken x xs depth [] u us e below = absurd (omega (arith, below))
-taken x xs zero (r ∷ bx) u us e below = rw e refl
-taken x xs (suc depth) (r ∷ bx) u us e below = let up : suc depth + 1 ≡ suc (depth + 1) = omega arith in rw up (ap (λ rs. r ∷ rs) (taken x xs depth bx u us e (omega (arith, below))))
+universal_value_is_picked x xs depth [] u us e below = absurd (omega (arith, below))
+universal_value_is_picked x xs zero (r ∷ bx) u us e below = rw e refl
+universal_value_is_picked x xs (suc depth) (r ∷ bx) u us e below = let up : suc depth + 1 ≡ suc (depth + 1) = omega arith in rw up (ap (λ rs. r ∷ rs) (universal_value_is_picked x xs depth bx u us e (omega (arith, below))))
 
 -- once the variable at the depth has the value, the others take theirs
-pub put_first : (xs : List Var) (depth : ℕ) (bx : List Range) (u : ℤ) (us : List ℤ) → depth < length bx
+pub picked_from_put : (xs : List Var) (depth : ℕ) (bx : List Range) (u : ℤ) (us : List ℤ) → depth < length bx
     → take (depth + 1) (set bx depth (single u)) ++ fixed xs (drop (depth + 1) (set bx depth (single u))) us ≡ picked depth xs bx u us
-put_first xs depth [] u us below = absurd (omega (arith, below))
-put_first xs zero (r ∷ bx) u us below = refl
-put_first xs (suc depth) (r ∷ bx) u us below = let up : suc depth + 1 ≡ suc (depth + 1) = omega arith in rw up (ap (λ rs. r ∷ rs) (put_first xs depth bx u us (omega (arith, below))))
+picked_from_put xs depth [] u us below = absurd (omega (arith, below))
+picked_from_put xs zero (r ∷ bx) u us below = refl
+picked_from_put xs (suc depth) (r ∷ bx) u us below = let up : suc depth + 1 ≡ suc (depth + 1) = omega arith in rw up (ap (λ rs. r ∷ rs) (picked_from_put xs depth bx u us (omega (arith, below))))
 
 -- ---- values that fit
 
-fits_here : (x : Var) (xs : List Var) (depth : ℕ) (bx : List Range) (us : List ℤ) → depth < length bx → fit (x ∷ xs) (drop depth bx) us ≡ true
+fit_from_range : (x : Var) (xs : List Var) (depth : ℕ) (bx : List Range) (us : List ℤ) → depth < length bx → fit (x ∷ xs) (drop depth bx) us ≡ true
     → fit (x ∷ xs) (range_at bx depth ∷ drop (depth + 1) bx) us ≡ true
-fits_here x xs depth bx us below h = ap (λ rs. fit (x ∷ xs) rs us) (sym (drop_more bx depth (single (pos 0)) below)) ∙ h
+fit_from_range x xs depth bx us below h = ap (λ rs. fit (x ∷ xs) rs us) (sym (drop_more bx depth (single (pos 0)) below)) ∙ h
 
-pub fits_later : (x : Var) (xs : List Var) (depth : ℕ) (bx : List Range) (us : List ℤ) → is_universal x ≡ false → depth < length bx → fit (x ∷ xs) (drop depth bx) us ≡ true
+pub fit_behind_existential : (x : Var) (xs : List Var) (depth : ℕ) (bx : List Range) (us : List ℤ) → is_universal x ≡ false → depth < length bx → fit (x ∷ xs) (drop depth bx) us ≡ true
     → fit xs (drop (depth + 1) bx) us ≡ true
-fits_later x xs depth bx us e below h = by us (fits_here x xs depth bx us below h)
+fit_behind_existential x xs depth bx us e below h = by us (fit_from_range x xs depth bx us below h)
   where
     by : (vs : List ℤ) → fit (x ∷ xs) (range_at bx depth ∷ drop (depth + 1) bx) vs ≡ true → fit xs (drop (depth + 1) bx) vs ≡ true
     by [] h = rw e at h
@@ -63,16 +63,9 @@ pub record FitsNext (xs : List Var) (depth : ℕ) (bx : List Range) (u : ℤ) (u
   pub here : is_in (range_at bx depth) u ≡ true
   pub others : fit xs (drop (depth + 1) bx) us ≡ true
 
-pub fits_next : (x : Var) (xs : List Var) (depth : ℕ) (bx : List Range) (u : ℤ) (us : List ℤ) → is_universal x ≡ true → depth < length bx → fit (x ∷ xs) (drop depth bx) (u ∷ us) ≡ true
+pub fit_behind_universal : (x : Var) (xs : List Var) (depth : ℕ) (bx : List Range) (u : ℤ) (us : List ℤ) → is_universal x ≡ true → depth < length bx → fit (x ∷ xs) (drop depth bx) (u ∷ us) ≡ true
     → FitsNext xs depth bx u us
-fits_next x xs depth bx u us e below h =
-    let here : (is_in (range_at bx depth) u && fit xs (drop (depth + 1) bx) us) ≡ true = rw e at (fits_here x xs depth bx (u ∷ us) below h) in
+fit_behind_universal x xs depth bx u us e below h =
+    let here : (is_in (range_at bx depth) u && fit xs (drop (depth + 1) bx) us) ≡ true = rw e at (fit_from_range x xs depth bx (u ∷ us) below h) in
     let parts = and_parts (is_in (range_at bx depth) u) (fit xs (drop (depth + 1) bx) us) here in
     record { here = parts.0; others = parts.1 }
-
--- a universal variable needs a value
-pub needs_value : (x : Var) (xs : List Var) (depth : ℕ) (bx : List Range) → is_universal x ≡ true → depth < length bx → fit (x ∷ xs) (drop depth bx) [] ≡ true → ⊥
-needs_value x xs depth bx e below h = by (rw e at (fits_here x xs depth bx [] below h))
-  where
-    by : false ≡ true → ⊥
-    by e = cc

@@ -32,47 +32,47 @@ named_closes P cuts bx G combo entries named = rw (entries_all_positive combo.en
 -- ---- completions
 
 -- none of the values is left exactly where all are used
-none_left : (bx : List Range) (us : List ℤ) (u : ℕ) → u ≤ length us → nat_eq u (length us) ≡ fit [] bx (drop u us)
-none_left bx [] zero h = refl
-none_left bx [] (suc u) h = absurd (omega arith)
-none_left bx (v ∷ us) zero h = grind (arith, nat_tests)
-none_left bx (v ∷ us) (suc u) h = let rest = none_left bx us u (omega arith) in grind (arith, nat_tests)
+all_used-fit : (bx : List Range) (us : List ℤ) (u : ℕ) → u ≤ length us → nat_eq u (length us) ≡ fit [] bx (drop u us)
+all_used-fit bx [] zero h = refl
+all_used-fit bx [] (suc u) h = absurd (omega arith)
+all_used-fit bx (v ∷ us) zero h = grind (arith, nat_tests)
+all_used-fit bx (v ∷ us) (suc u) h = let rest = all_used-fit bx us u (omega arith) in grind (arith, nat_tests)
 
-skips : (x : Var) (xs : List Var) (r : Range) (bx : List Range) (us : List ℤ) → is_universal x ≡ false → fit (x ∷ xs) (r ∷ bx) us ≡ fit xs bx us
-skips x xs r bx [] e = rw e refl
-skips x xs r bx (u ∷ us) e = rw e refl
+fit-existential : (x : Var) (xs : List Var) (r : Range) (bx : List Range) (us : List ℤ) → is_universal x ≡ false → fit (x ∷ xs) (r ∷ bx) us ≡ fit xs bx us
+fit-existential x xs r bx [] e = rw e refl
+fit-existential x xs r bx (u ∷ us) e = rw e refl
 
-uses : (x : Var) (xs : List Var) (r : Range) (bx : List Range) (u : ℤ) (us : List ℤ) → is_universal x ≡ true → is_in r u ≡ true → fit (x ∷ xs) (r ∷ bx) (u ∷ us) ≡ fit xs bx us
-uses x xs r bx u us e within = rw (e, within) refl
+fit-universal : (x : Var) (xs : List Var) (r : Range) (bx : List Range) (u : ℤ) (us : List ℤ) → is_universal x ≡ true → is_in r u ≡ true → fit (x ∷ xs) (r ∷ bx) (u ∷ us) ≡ fit xs bx us
+fit-universal x xs r bx u us e within = rw (e, within) refl
 
 module _ (xs : List Var) (bx : List Range) (us : List ℤ) where
   pub fit_all : (i u : ℕ) → length xs ≤ i → u ≤ length us → nat_eq u (length us) ≡ fit (drop i xs) (drop i bx) (drop u us)
-  fit_all i u h k = none_left (drop i bx) us u k ∙ sym (ap (λ ys. fit ys (drop i bx) (drop u us)) (drop_all i xs h))
+  fit_all i u h k = all_used-fit (drop i bx) us u k ∙ sym (ap (λ ys. fit ys (drop i bx) (drop u us)) (drop_all i xs h))
 
   module _ (i u : ℕ) (x : Var) (h : i < length xs) (k : i < length bx) (is : x ≡ get_or xs i x) where
-    this : drop i xs ≡ x ∷ drop (i + 1) xs
-    this = drop_more xs i x h ∙ ap (λ y. y ∷ drop (i + 1) xs) (sym is)
+    var_then_others : drop i xs ≡ x ∷ drop (i + 1) xs
+    var_then_others = drop_more xs i x h ∙ ap (λ y. y ∷ drop (i + 1) xs) (sym is)
 
-    opened : (r : Range) → fit (drop i xs) (drop i bx) (drop u us) ≡ fit (x ∷ drop (i + 1) xs) (get_or bx i r ∷ drop (i + 1) bx) (drop u us)
-    opened r = ap (λ ys. fit ys (drop i bx) (drop u us)) this ∙ ap (λ rs. fit (x ∷ drop (i + 1) xs) rs (drop u us)) (drop_more bx i r k)
+    fit_opened : (r : Range) → fit (drop i xs) (drop i bx) (drop u us) ≡ fit (x ∷ drop (i + 1) xs) (get_or bx i r ∷ drop (i + 1) bx) (drop u us)
+    fit_opened r = ap (λ ys. fit ys (drop i bx) (drop u us)) var_then_others ∙ ap (λ rs. fit (x ∷ drop (i + 1) xs) rs (drop u us)) (drop_more bx i r k)
 
     pub fit_skip : (r : Range) → is_universal x ≡ false → fit (drop i xs) (drop i bx) (drop u us) ≡ fit (drop (i + 1) xs) (drop (i + 1) bx) (drop u us)
-    fit_skip r e = opened r ∙ skips x (drop (i + 1) xs) (get_or bx i r) (drop (i + 1) bx) (drop u us) e
+    fit_skip r e = fit_opened r ∙ fit-existential x (drop (i + 1) xs) (get_or bx i r) (drop (i + 1) bx) (drop u us) e
 
     pub fit_use : (r : Range) (v : ℤ) → is_universal x ≡ true → u < length us → is_in (get_or bx i r) (get_or us u v) ≡ true
         → fit (drop i xs) (drop i bx) (drop u us) ≡ fit (drop (i + 1) xs) (drop (i + 1) bx) (drop (u + 1) us)
     fit_use r v e j within =
-        opened r ∙ ap (fit (x ∷ drop (i + 1) xs) (get_or bx i r ∷ drop (i + 1) bx)) (drop_more us u v j)
-        ∙ uses x (drop (i + 1) xs) (get_or bx i r) (drop (i + 1) bx) (get_or us u v) (drop (u + 1) us) e within
+        fit_opened r ∙ ap (fit (x ∷ drop (i + 1) xs) (get_or bx i r ∷ drop (i + 1) bx)) (drop_more us u v j)
+        ∙ fit-universal x (drop (i + 1) xs) (get_or bx i r) (drop (i + 1) bx) (get_or us u v) (drop (u + 1) us) e within
 
 -- ---- ranges
 
-overs : (parts : List RefutePart) → out-Refute (Over parts) ≡ node.Over parts
-overs parts = ap out-Refute (sym (rolls-Over parts)) ∙ out-roll-Refute (node.Over parts)
+out-of-Over : (parts : List RefutePart) → out-Refute (Over parts) ≡ node.Over parts
+out-of-Over parts = ap out-Refute (sym (rolls-Over parts)) ∙ out-roll-Refute (node.Over parts)
 
 pub over_judged : (P : Problem) (cuts : List Row) (G : Goal) (rest : List Var) (depth : ℕ) (bx : List Range) (tree : Refute) (parts slice : List RefutePart) → tree ≡ Over parts → slice ≡ parts
     → answer_of (judge_over P cuts G rest depth bx slice) ≡ answer_of (judge_refute P cuts [] G rest depth bx tree)
-over_judged P cuts G rest depth bx tree parts slice is same = by rest (ap out-Refute is ∙ overs parts ∙ sym (ap (λ ps. node.Over ps) same))
+over_judged P cuts G rest depth bx tree parts slice is same = by rest (ap out-Refute is ∙ out-of-Over parts ∙ sym (ap (λ ps. node.Over ps) same))
   where
     by : (xs : List Var) → out-Refute tree ≡ node.Over slice → answer_of (judge_over P cuts G xs depth bx slice) ≡ answer_of (judge_refute P cuts [] G xs depth bx tree)
     by [] layer = rw layer refl

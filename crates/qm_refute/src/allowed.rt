@@ -66,6 +66,7 @@ fn holds_when_completed(here: Place<'_>, bx: &mut Bx, completion: &[i64]) -> boo
 /// Whether each uncertainty row holds at the worst ends of the box, once the next variable has this value, and the
 /// later universal ones have those of the completion. The box stays as it was.
 #[cycle(uncertainty)]
+#[tactic(auto, using(qm_cover::proofs::Places::put_back_at))]
 fn holds_when_picked(here: Place<'_>, bx: &mut Bx, value: i64, completion: &[i64]) -> bool
     requires bx { IsBox here.game.now.vars bx.old }
     requires some { 0 < length here.rest.now }

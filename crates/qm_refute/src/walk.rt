@@ -124,12 +124,12 @@ fn test_over(
     if !over_count_is_right(&here.rest[0], covered, parts.len()) {
         return Ok(false);
     }
-    test_each(here, sought, bx, covered, parts)
+    test_over_parts(here, sought, bx, covered, parts)
 }
 
 /// Whether the parts' ranges follow on from the low to the high end, and the refutation below each passes.
 #[cycle(test)]
-fn test_each(
+fn test_over_parts(
     here: Place<'_>,
     sought: Sought<'_>,
     bx: &mut Bx,
@@ -178,7 +178,7 @@ fn test_part(
 
 /// Whether the refutation passes behind the next variable, once that has this range.
 #[cycle(test)]
-#[tactic(auto, using(qm_cover::proofs::BoxPlaces::box_narrowed))]
+#[tactic(auto, using(qm_cover::proofs::BoxPlaces::box_narrowed, qm_cover::proofs::Places::put_back_at))]
 fn test_below(
     here: Place<'_>,
     sought: Sought<'_>,

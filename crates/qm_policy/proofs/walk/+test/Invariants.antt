@@ -10,8 +10,8 @@ decreases-test_from l = 5 * length l.here.rest.now
 abbrev pub decreases-test_answer : goal.decreases-test_answer
 decreases-test_answer l = 5 * length l.here.rest.now - 1
 
-abbrev pub decreases-test_each : goal.decreases-test_each
-decreases-test_each l = 5 * length l.here.rest.now - 2
+abbrev pub decreases-test_answer_parts : goal.decreases-test_answer_parts
+decreases-test_answer_parts l = 5 * length l.here.rest.now - 2
 
 abbrev pub decreases-test_part : goal.decreases-test_part
 decreases-test_part l = 5 * length l.here.rest.now - 3
@@ -19,5 +19,5 @@ decreases-test_part l = 5 * length l.here.rest.now - 3
 abbrev pub decreases-test_below : goal.decreases-test_below
 decreases-test_below l = 5 * length l.here.rest.now - 4
 
-abbrev pub invariant-test_each-loop-at : goal.invariant-test_each-loop-at
-invariant-test_each-loop-at l = ArePassed range_of (judge_part l.here.game.now l.value l.here.rest.now l.here.depth) l.fn.bx l.covered l.parts l.bx l.next l.at
+abbrev pub invariant-test_answer_parts-loop-at : goal.invariant-test_answer_parts-loop-at
+invariant-test_answer_parts-loop-at l = ArePassed range_of (judge_part l.here.game.now l.value l.here.rest.now l.here.depth) l.fn.bx l.covered l.parts l.bx l.next l.at

@@ -9,9 +9,8 @@ use Rattle.qm_model.specs.Boxes.{IsBox, IsInside}
 use Rattle.qm_model.specs.Ranges.{is_in, range_at, single}
 use Rattle.qm_trees.specs.Picks.{fixed, meet_on_box}
 use Rattle.qm_game.proofs.NextVariables.{next_in_box}
-use Rattle.qm_cover.proofs.Places.{put_back}
 use Rattle.qm_cover.proofs.BoxPlaces.{box_narrowed, value_inside}
-use Rattle.qm_refute.proofs.Picking.{fits_later, fits_next, put_first, skipped, taken}
+use Rattle.qm_refute.proofs.Picking.{fit_behind_existential, fit_behind_universal, picked_from_put, existential_range_stays, universal_value_is_picked}
 use Rattle.qm_refute.proofs.allowed.+uncertainty.Goals as goal
 
 picked_stays_box : (P : Problem) (bx put : List Range) (depth : ℕ) (value : ℤ) (range : Range) → SFits w64 value → range ≡ single (to_z w64 (of_z w64 value)) → is_in (range_at bx depth) value ≡ true
@@ -41,13 +40,8 @@ holds_when_picked-returns-clause-answer t c =
     let value = rw (to_z-of_z w64 c.args.value c.ranges.value) at c.single.ensures in
     let answer = rw (c.behind.ensures.game, c.behind.ensures.rest, c.behind.ensures.depth, c.put.ensures, value) at c.holds_when_completed-answer.ensures.answer in
     answer
-    ∙ ap (meet_on_box P) (put_first (drop 1 c.args.here.rest.now) c.args.here.depth c.args.bx.now c.args.value c.args.completion.now
+    ∙ ap (meet_on_box P) (picked_from_put (drop 1 c.args.here.rest.now) c.args.here.depth c.args.bx.now c.args.value c.args.completion.now
     (next_in_box P c.args.here.rest.now c.args.here.depth c.args.bx.now c.args.here.from_depth c.requires.some c.requires.bx))
-
-pub holds_when_picked-returns-clause-same : goal.holds_when_picked-returns-clause-same
-holds_when_picked-returns-clause-same t c =
-    put_back c.args.bx.now c.put.new.bx c.holds_when_completed-answer.new.bx c.put-2.new.bx c.args.here.depth c.single.result c.range-before.result
-    c.put.ensures c.holds_when_completed-answer.ensures.same c.put-2.ensures c.range-before.ensures
 
 pub holds_when_completed-holds_when_completed-requires : goal.holds_when_completed-holds_when_completed-requires
 holds_when_completed-holds_when_completed-requires t c =
@@ -59,7 +53,7 @@ holds_when_completed-holds_when_completed-requires t c =
       omega (arith, ap length c.behind.ensures.rest, length-drop 1 here.rest.now, ap length more),
       (
         rw c.behind.ensures.game c.requires.bx,
-        rw (c.behind.ensures.rest, c.behind.ensures.depth, more) (fits_later c.in-Some.var.now c.in-Some._later.now here.depth c.args.bx.now c.args.completion.now other below fits),
+        rw (c.behind.ensures.rest, c.behind.ensures.depth, more) (fit_behind_existential c.in-Some.var.now c.in-Some._later.now here.depth c.args.bx.now c.args.completion.now other below fits),
       ),
     )
 
@@ -71,7 +65,7 @@ holds_when_completed-returns-then-not-is_for_all-clause-answer t c =
     let other = sym c.is_for_all.ensures ∙ c.if-not-is_for_all.true in
     let answer = rw (c.behind.ensures.game, c.behind.ensures.rest, c.behind.ensures.depth, more) at c.holds_when_completed.ensures.answer in
     answer
-    ∙ ap (meet_on_box here.game.now) (skipped c.in-Some.var.now c.in-Some._later.now here.depth c.args.bx.now c.args.completion.now other below
+    ∙ ap (meet_on_box here.game.now) (existential_range_stays c.in-Some.var.now c.in-Some._later.now here.depth c.args.bx.now c.args.completion.now other below
     ∙ ap (λ xs. take here.depth c.args.bx.now ++ fixed xs (drop here.depth c.args.bx.now) c.args.completion.now) (sym more))
 
 pub holds_when_completed-holds_when_picked-requires : goal.holds_when_completed-holds_when_picked-requires
@@ -84,7 +78,7 @@ holds_when_completed-holds_when_picked-requires t c =
     let value = c.in-Some-split_first.value.now in
     let range : SFits w64 value = search rules in
     let fits = rw (more, c.in-Some-split_first.ensures.cases.0) at c.requires.fits in
-    let next = fits_next c.in-Some.var.now c.in-Some._later.now here.depth c.args.bx.now value c.in-Some-split_first.others.now universal below fits in
+    let next = fit_behind_universal c.in-Some.var.now c.in-Some._later.now here.depth c.args.bx.now value c.in-Some-split_first.others.now universal below fits in
     (omega (arith, some), (c.requires.bx, (some, (rw (to_z-of_z w64 value range) next.here, rw more next.others))))
 
 pub holds_when_completed-returns-in-Some-split_first-clause-answer : goal.holds_when_completed-returns-in-Some-split_first-clause-answer
@@ -98,6 +92,6 @@ holds_when_completed-returns-in-Some-split_first-clause-answer t c =
     let range : SFits w64 value = search rules in
     let answer = rw (to_z-of_z w64 value range, more) at c.holds_when_picked.ensures.answer in
     answer
-    ∙ ap (meet_on_box here.game.now) (taken c.in-Some.var.now c.in-Some._later.now here.depth c.args.bx.now value others universal below
+    ∙ ap (meet_on_box here.game.now) (universal_value_is_picked c.in-Some.var.now c.in-Some._later.now here.depth c.args.bx.now value others universal below
     ∙ ap (λ xs. take here.depth c.args.bx.now ++ fixed xs (drop here.depth c.args.bx.now) (value ∷ others)) (sym more)
     ∙ ap (λ us. take here.depth c.args.bx.now ++ fixed here.rest.now (drop here.depth c.args.bx.now) us) (sym c.in-Some-split_first.ensures.cases.0))

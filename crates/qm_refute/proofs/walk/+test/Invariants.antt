@@ -11,8 +11,8 @@ decreases-test_from l = 5 * length l.here.rest.now
 abbrev pub decreases-test_over : goal.decreases-test_over
 decreases-test_over l = 5 * length l.here.rest.now - 1
 
-abbrev pub decreases-test_each : goal.decreases-test_each
-decreases-test_each l = 5 * length l.here.rest.now - 2
+abbrev pub decreases-test_over_parts : goal.decreases-test_over_parts
+decreases-test_over_parts l = 5 * length l.here.rest.now - 2
 
 abbrev pub decreases-test_part : goal.decreases-test_part
 decreases-test_part l = 5 * length l.here.rest.now - 3
@@ -20,6 +20,6 @@ decreases-test_part l = 5 * length l.here.rest.now - 3
 abbrev pub decreases-test_below : goal.decreases-test_below
 decreases-test_below l = 5 * length l.here.rest.now - 4
 
-abbrev pub invariant-test_each-loop-at : goal.invariant-test_each-loop-at
-invariant-test_each-loop-at l =
+abbrev pub invariant-test_over_parts-loop-at : goal.invariant-test_over_parts-loop-at
+invariant-test_over_parts-loop-at l =
     ArePassed range_of (judge_part l.here.game.now l.sought.cuts.now (goal_of l.sought.goal.now) l.here.rest.now l.here.depth) l.fn.bx l.covered l.parts l.bx l.next l.at
