@@ -1,7 +1,14 @@
-//! What a combination of rows comes to over a box, and whether it closes a goal there; and whether a tree of them
-//! shows that no universal play has its values in a box.
-//! Combinations and the trees of rows that stand alone are given on from the crate of their definitions.
-//! No call takes memory.
+//! Combinations of rows over a box, and trees of them that show that no universal play has its values in a box.
+//!
+//! `value` takes a game, its cuts, a box and a combination whose rows are there, and tells what the combination comes to:
+//! a contradiction, a bound of the objective, or nothing. `closes` tells whether by that no point of the box that meets
+//! the rows reaches a goal. That rows without a common point have multipliers which add them up to a contradiction is
+//! Farkas's lemma; the ends of the box stand in for the rows of the bounds, so that a combination names no bounds.
+//! `test_empty` goes through a tree that splits ranges of universal variables and closes by uncertainty rows alone.
+//! Each leaves where the first operation leaves the range of `Frac`. No call takes memory.
+//!
+//! Public clauses cite `value_of` of `specs/Evaluation`, `closing` of `specs/Closing`, `judge_empty` of
+//! `specs/EmptyJudgement` and `IsRightEmpty` of `specs/EmptyRight`, all of qm_trees. Combinations and trees are given on.
 #![tactic(auto)]
 
 mod closing;

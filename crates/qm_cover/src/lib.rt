@@ -2,8 +2,8 @@
 //!
 //! `count_is_right` answers whether there are parts where the covered range has values, `follows` whether one part goes
 //! on where the part before ended, and `is_last` whether it is the last. Public clauses cite `specs/Ranges` of qm_trees.
-//! The proofs show what a test answers from a part on (`PartSteps`) and how it goes from place to place (`Places`,
-//! `BoxPlaces`).
+//! The proofs show what a test answers from a part on (`PartSteps`), that a range inside another may be put into its
+//! place (`BoxPlaces`), and that the box is as it was once it is put back (`Places`).
 #![tactic(auto)]
 
 mod parts;

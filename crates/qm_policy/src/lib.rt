@@ -1,5 +1,13 @@
-//! Whether a policy of the existential player passes at a value, over a box: node by node in the order of its
-//! text, with each range that is narrowed put back.
+//! Whether a policy of the existential player reaches a value.
+//!
+//! `test` takes a game, a box of the game, a value and a policy. It goes through the policy in the order of its text, and
+//! answers whether each node is right: a value in range at an existential variable, parts that cover the range at a
+//! universal one, and at a leaf a point that meets the bounds and rows and reaches the value at the worst ends of the
+//! box. A range without legal values has a tree in place of a policy. Each range that is narrowed is put back.
+//! Over the whole box a policy that passes wins.
+//!
+//! Public clauses cite `judge_policy` of `specs/PolicyJudgement` (the order), `IsRightPolicy` of `specs/PolicyRight` (no
+//! order) and `PolicyReaches` of `specs/Reaching`, of qm_trees, and `Wins` of qm_model.
 #![tactic(auto)]
 
 mod fractions;
