@@ -15,7 +15,7 @@ use Rattle.qm_model.specs.declared.game.Problem.{Problem}
 use Rattle.qm_model.specs.Boxes.{greatest_value, whole_box_of}
 use Rattle.qm_model.specs.Legal.{universal_part}
 use Rattle.qm_model.specs.Linear.{HasVarsBelow, form}
-use Rattle.qm_model.specs.Plays.{HoldsAt, IsWithin, spread, whole_vars}
+use Rattle.qm_model.specs.Plays.{HoldsAt, spread, whole_vars}
 use Rattle.qm_model.specs.Sound.{IsOverUniversal, IsRowOver, IsSound}
 use Rattle.qm_model.proofs.Forms.{sum_over-each}
 use Rattle.qm_model.proofs.Players.{by_player, is_for_all, not_universal}

@@ -14,7 +14,6 @@ use Rattle.qm_legal.specs.Queries.{IsRightLegality}
 use Rattle.qm_legal.proofs.Places.{some_next}
 use Rattle.qm_search.specs.AnswerSteps.{AreAnswers, IsRightAnswer}
 use Rattle.qm_search.specs.ChoiceSteps.{AreChoices}
-use Rattle.qm_search.specs.OutcomeSteps.{IsOutcome}
 use Rattle.qm_search.specs.PlaceSteps.{IsSearchPlace, next_value}
 use Rattle.qm_search.proofs.AnswerLaws.{some_answered}
 use Rattle.qm_search.proofs.Completions.{begins_here, completes_existential, completes_known}
@@ -33,13 +32,18 @@ visit-best-outcome-requires t c =
     let box = next_box P rest depth bx c.args.here.from_depth c.requires.some c.requires.bx c.args.value c.requires.within in
     let place : IsSearchPlace P (depth + 1) (set bx depth (single c.args.value)) c.args.completion.now = record { box = box; completes = c.requires.completes } in (
       omega (arith, c.requires.some, ap length c.behind.ensures.rest, length-drop 1 rest),
-      rw (c.behind.ensures.game, c.behind.ensures.depth, c.set.ensures, c.single.ensures, same) place,
+      rw (c.behind.ensures.game, c.behind.ensures.depth, c.put.ensures, c.single.ensures, same) place,
     )
+
+pub visit-put-requires-2-clause-bx : goal.visit-put-requires-2-clause-bx
+visit-put-requires-2-clause-bx t c =
+    let box = next_box c.args.here.game.now c.args.here.rest.now c.args.here.depth c.args.bx.now c.args.here.from_depth c.requires.some c.requires.bx c.args.value c.requires.within in
+    rw (c.best-outcome.ensures.same, c.put.ensures, c.single.ensures, to_z-of_z w64 c.args.value c.ranges.value) box.box
 
 pub visit-returns-clause-same : goal.visit-returns-clause-same
 visit-returns-clause-same t c =
-    put_back c.args.bx.now c.set.new.self c.best-outcome.new.bx c.set-2.new.self c.args.here.depth c.single.result c.range_in-before.result
-    c.set.ensures c.best-outcome.ensures.same c.set-2.ensures (rw c.as_slice.ensures at c.range_in-before.ensures)
+    put_back c.args.bx.now c.put.new.bx c.best-outcome.new.bx c.put-2.new.bx c.args.here.depth c.single.result c.range-before.result
+    c.put.ensures c.best-outcome.ensures.same c.put-2.ensures c.range-before.ensures
 
 pub answer_to-is_known-requires : goal.answer_to-is_known-requires
 answer_to-is_known-requires t c =
@@ -129,9 +133,9 @@ best_choice-loop-choice-init t c =
     let rest = c.args.here.rest.now in
     let depth = c.args.here.depth in
     let bx = c.args.bx.now in
-    let is = rw c.as_slice.ensures at c.range_in-covered.ensures in
-    let low : SFits w64 c.range_in-covered.result.low = search rules in
-    rw (to_z-of_z w64 c.range_in-covered.result.low low, is)
+    let is = c.range-covered.ensures in
+    let low : SFits w64 c.range-covered.result.low = search rules in
+    rw (to_z-of_z w64 c.range-covered.result.low low, is)
     (record {
       from = omega (arith, ints);
       to = λ some. absurd (omega (arith, ints, some));
@@ -152,8 +156,8 @@ best_choice-visit-requires t c =
     let here = c.requires.place.box in
     let v = to_z w64 c.loop-choice.choice-bits in
     let before = c.loop-choice.invariant in
-    let is = rw c.as_slice.ensures at c.range_in-covered.ensures in
-    let high : c.range_in-covered.result.high ≡ (range_at bx depth).high = ap (λ (r : Range). r.high) is in
+    let is = c.range-covered.ensures in
+    let high : c.range-covered.result.high ≡ (range_at bx depth).high = ap (λ (r : Range). r.high) is in
     let some = some_next Exists rest c.requires.player in
     let most : v ≤ℤ (range_at bx depth).high = omega (arith, ints, high) in
     let completes = completes_existential P x later depth bx from_depth here v c.args.completion.now next.player_is c.requires.place.completes in
@@ -167,10 +171,10 @@ best_choice-loop-choice-preserved t c =
     let bx = c.args.bx.now in
     let v = to_z w64 c.loop-choice.choice-bits in
     let before = c.loop-choice.invariant in
-    let is = rw c.as_slice.ensures at c.range_in-covered.ensures in
-    let high : c.range_in-covered.result.high ≡ (range_at bx depth).high = ap (λ (r : Range). r.high) is in
-    let fitting : SFits w64 c.range_in-covered.result.high = search rules in
-    let less : v <ℤ c.range_in-covered.result.high = omega (arith, ints) in
+    let is = c.range-covered.ensures in
+    let high : c.range-covered.result.high ≡ (range_at bx depth).high = ap (λ (r : Range). r.high) is in
+    let fitting : SFits w64 c.range-covered.result.high = search rules in
+    let less : v <ℤ c.range-covered.result.high = omega (arith, ints) in
     let fits : SFits w64 (v +ℤ pos 1) = omega (arith, ints) in
     let outcome = rw before.same at c.in_ok-next.ensures.outcome in
     simp (to_z-of_z w64 (v +ℤ pos 1) fits)
@@ -194,9 +198,9 @@ best_choice-returns-clause-outcome t c =
     let here = c.requires.place.box in
     let v = to_z w64 c.loop-choice.choice-bits in
     let before = c.loop-choice.invariant in
-    let is = rw c.as_slice.ensures at c.range_in-covered.ensures in
-    let high : c.range_in-covered.result.high ≡ (range_at bx depth).high = ap (λ (r : Range). r.high) is in
-    let fitting : SFits w64 c.range_in-covered.result.high = search rules in
+    let is = c.range-covered.ensures in
+    let high : c.range-covered.result.high ≡ (range_at bx depth).high = ap (λ (r : Range). r.high) is in
+    let fitting : SFits w64 c.range-covered.result.high = search rules in
     elim c.loop-choice-test.branch [
       | best_choice-else-loop-choice-test w ↦
           let above : (range_at bx depth).high <ℤ v = omega (arith, ints, high) in
@@ -223,9 +227,9 @@ worst_answer-loop-value-init t c =
     let here = c.requires.place.box in
     let begins = begins_here P x later depth bx from_depth here next.player_is c.args.completion.now c.requires.place.completes in
     let first : IsBetween (range_at bx depth).low (range_at bx depth).high (next_value c.args.completion.now) = rw (range_is P x later depth bx from_depth here) begins.within in
-    let is = rw c.as_slice.ensures at c.range_in-covered.ensures in
-    let low : SFits w64 c.range_in-covered.result.low = search rules in
-    rw (to_z-of_z w64 c.range_in-covered.result.low low, is)
+    let is = c.range-covered.ensures in
+    let low : SFits w64 c.range-covered.result.low = search rules in
+    rw (to_z-of_z w64 c.range-covered.result.low low, is)
     (record {
       from = omega (arith, ints);
       to = λ some. absurd (omega (arith, ints, some));
@@ -242,10 +246,10 @@ worst_answer-loop-value-preserved t c =
     let first = next_value c.args.completion.now in
     let v = to_z w64 c.loop-value.value-bits in
     let before = c.loop-value.invariant in
-    let is = rw c.as_slice.ensures at c.range_in-covered.ensures in
-    let high : c.range_in-covered.result.high ≡ (range_at bx depth).high = ap (λ (r : Range). r.high) is in
-    let fitting : SFits w64 c.range_in-covered.result.high = search rules in
-    let less : v <ℤ c.range_in-covered.result.high = omega (arith, ints) in
+    let is = c.range-covered.ensures in
+    let high : c.range-covered.result.high ≡ (range_at bx depth).high = ap (λ (r : Range). r.high) is in
+    let fitting : SFits w64 c.range-covered.result.high = search rules in
+    let less : v <ℤ c.range-covered.result.high = omega (arith, ints) in
     let fits : SFits w64 (v +ℤ pos 1) = omega (arith, ints) in
     let answer = rw before.same at c.in_ok-refute.ensures.answer in
     let reply = subst (IsRightAnswer P rest depth bx first v) c.in-Kept.is answer in
@@ -273,9 +277,9 @@ worst_answer-outcome-requires t c =
     let inside : IsBetween (range_at bx depth).low (range_at bx depth).high first = rw (range_is P x later depth bx from_depth here) begins.within in
     let v = to_z w64 c.loop-value.value-bits in
     let before = c.loop-value.invariant in
-    let is = rw c.as_slice.ensures at c.range_in-covered.ensures in
-    let high : c.range_in-covered.result.high ≡ (range_at bx depth).high = ap (λ (r : Range). r.high) is in
-    let fitting : SFits w64 c.range_in-covered.result.high = search rules in
+    let is = c.range-covered.ensures in
+    let high : c.range-covered.result.high ≡ (range_at bx depth).high = ap (λ (r : Range). r.high) is in
+    let fitting : SFits w64 c.range-covered.result.high = search rules in
     elim c.loop-value-test.branch [
       | worst_answer-else-loop-value-test w ↦
           let above : first <ℤ v = omega (arith, ints, inside.1, high) in
@@ -304,9 +308,9 @@ worst_answer-returns-clause-outcome t c =
     let first = next_value c.args.completion.now in
     let v = to_z w64 c.loop-value.value-bits in
     let before = c.loop-value.invariant in
-    let is = rw c.as_slice.ensures at c.range_in-covered.ensures in
-    let high : c.range_in-covered.result.high ≡ (range_at bx depth).high = ap (λ (r : Range). r.high) is in
-    let fitting : SFits w64 c.range_in-covered.result.high = search rules in
+    let is = c.range-covered.ensures in
+    let high : c.range-covered.result.high ≡ (range_at bx depth).high = ap (λ (r : Range). r.high) is in
+    let fitting : SFits w64 c.range-covered.result.high = search rules in
     elim c.loop-value-test.branch [
       | worst_answer-else-loop-value-test w ↦
           let above : (range_at bx depth).high <ℤ v = omega (arith, ints, high) in
