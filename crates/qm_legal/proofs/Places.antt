@@ -2,16 +2,15 @@
 use Rattle.std.proofs.Common.{◌≡◌, refl, sym, ap, subst, ◌∙◌, ℕ, zero, suc, ◌+◌, ◌<◌, ◌≤◌, List, [], ◌∷◌, ◌++◌, length, take, drop, set, map, All, arith, ℤ, pos, ◌+ℤ◌, ◌-ℤ◌, ◌≤ℤ◌, ◌<ℤ◌, Option, Some, None, Ok, Err}
 use Rattle.std.specs.Prelude.{slice_set, Result, IfOk}
 use Rattle.std.proofs.lemmas.Int.{ints}
-use Rattle.std.proofs.lemmas.List.{length-drop, length-take, take_all, take-take, take-set-le, map-append}
+use Rattle.std.proofs.lemmas.List.{length-drop, take_all, take-take, take-set-le, map-append}
 use Rattle.std.proofs.lemmas.List.Elements.{All-push}
 use Rattle.qm_model.specs.declared.range.Range.{Range}
 use Rattle.qm_model.specs.declared.variable.Player.{Player}
 use Rattle.qm_model.specs.declared.variable.Player.TheVariants.{Exists}
 use Rattle.qm_model.specs.declared.variable.Var.{Var}
 use Rattle.qm_model.specs.declared.game.Problem.{Problem}
-use Rattle.qm_model.specs.Boxes.{Cover, FollowOn, IsBox, IsDead}
+use Rattle.qm_model.specs.Boxes.{Cover, FollowOn, IsDead}
 use Rattle.qm_model.specs.Plays.{whole_vars}
-use Rattle.qm_model.proofs.BoxLaws.{IsBox-length}
 use Rattle.qm_game.specs.First.{HasNone}
 use Rattle.qm_game.proofs.NextVariables.{next_in_box}
 use Rattle.qm_trees.specs.declared.empty.Empty.{Empty}
