@@ -8,7 +8,7 @@ use Rattle.qm_model.specs.Legal.{universal_part}
 use Rattle.qm_model.specs.Plays.{is_universal}
 use Rattle.qm_legal.specs.Queries.{low_of}
 
-abbrev lows : List Var → List Range → List ℤ
+abbrev pub lows : List Var → List Range → List ℤ
 lows xs bx = universal_part xs (map low_of bx)
 
 pub lows_more : (xs : List Var) (bx : List Range) (i : ℕ) (x : Var) (r : Range) (before after all : List ℤ) → i < length xs → i < length bx → x ≡ get_or xs i x → r ≡ get_or bx i r

@@ -2,17 +2,17 @@
 use Rattle.std.proofs.Common.{◌≡◌, refl, sym, ap, subst, ◌∙◌, ℕ, zero, suc, ◌+◌, ◌<◌, ◌≤◌, List, [], ◌∷◌, ◌++◌, length, take, drop, set, map, All, arith, ℤ, pos, ◌+ℤ◌, ◌-ℤ◌, ◌≤ℤ◌, ◌<ℤ◌, Option, Some, None, Ok, Err}
 use Rattle.std.specs.Prelude.{slice_set, Result, IfOk}
 use Rattle.std.proofs.lemmas.Int.{ints}
-use Rattle.std.proofs.lemmas.List.{length-drop, length-take, take_all, take-take, take-set-le, map-append}
+use Rattle.std.proofs.lemmas.List.{length-drop, take_all, take-take, take-set-le, map-append}
 use Rattle.std.proofs.lemmas.List.Elements.{All-push}
 use Rattle.qm_model.specs.declared.range.Range.{Range}
 use Rattle.qm_model.specs.declared.variable.Player.{Player}
 use Rattle.qm_model.specs.declared.variable.Player.TheVariants.{Exists}
 use Rattle.qm_model.specs.declared.variable.Var.{Var}
 use Rattle.qm_model.specs.declared.game.Problem.{Problem}
-use Rattle.qm_model.specs.Boxes.{Cover, FollowOn, IsBox, IsDead}
+use Rattle.qm_model.specs.Boxes.{Cover, FollowOn, IsDead}
 use Rattle.qm_model.specs.Plays.{whole_vars}
-use Rattle.qm_model.proofs.BoxLaws.{IsBox-length}
 use Rattle.qm_game.specs.First.{HasNone}
+use Rattle.qm_game.proofs.NextVariables.{next_in_box}
 use Rattle.qm_trees.specs.declared.empty.Empty.{Empty}
 use Rattle.qm_trees.specs.declared.empty.EmptyPart.{EmptyPart}
 use Rattle.qm_trees.specs.EmptyJudgement.{range_of, below_of}
@@ -52,12 +52,6 @@ pub sets_next : (player : Player) (rest : List Var) (x : Var) (later : List Var)
 sets_next player rest x later is sets = rw is sets
 
 module _ (P : Problem) (depth : ℕ) (bx : List Range) (rest : List Var) (from_depth : rest ≡ drop depth (whole_vars P)) where
-  -- the next variable has a range
-  pub next_below : 0 < length rest → IsBox P.vars bx → depth < length bx
-  next_below some box =
-      let count = ap length from_depth in
-      omega (arith, some, count, length-drop depth (whole_vars P), length-take P.wholes P.vars, IsBox-length P.vars bx box)
-
   -- where no variable is left
   pub completed_at_end : length rest ≡ 0 → IsAliveBox P depth bx → IsCompleted P depth bx bx
   completed_at_end none here =
@@ -76,7 +70,7 @@ module _ (P : Problem) (depth : ℕ) (bx : List Range) (rest : List Var) (from_d
   -- behind a variable of the other player
   pub alive_behind : SetsNext Exists rest → IsAliveBox P depth bx → IsAliveBox P (depth + 1) bx
   alive_behind other here =
-      let below = next_below (some_next Exists rest other) here.box in
+      let below = next_in_box P rest depth bx from_depth (some_next Exists rest other) here.box in
       record {
         box = here.box;
         set = subst (λ n. AreSet (take n (whole_vars P)) bx) up (set_other (whole_vars P) depth bx (subst (SetsNext Exists) from_depth other) below here.set);
@@ -87,7 +81,7 @@ module _ (P : Problem) (depth : ℕ) (bx : List Range) (rest : List Var) (from_d
   pub alive_behind_value : 0 < length rest → (r : Range) → IsOneOf (range_at bx depth) r → HasNone (IsDead (set bx depth r)) P.urows → IsAliveBox P depth bx → IsAliveBox P (depth + 1) (set bx depth r)
   alive_behind_value some r one alive here = record {
     box = set_in_box P.vars bx depth r here.box (one_inside (range_at bx depth) r one);
-    set = subst (λ n. AreSet (take n (whole_vars P)) (set bx depth r)) up (set_next (whole_vars P) depth bx r one.single (next_below some here.box) here.set);
+    set = subst (λ n. AreSet (take n (whole_vars P)) (set bx depth r)) up (set_next (whole_vars P) depth bx r one.single (next_in_box P rest depth bx from_depth some here.box) here.set);
     alive = alive;
   }
 
@@ -128,18 +122,18 @@ follow_push : (low high : ℤ) (rs : List Range) (r : Range) → FollowOn low hi
 follow_push low high [] r e is some = (is ∙ sym e, omega (arith, ints, e, is, some), refl)
 follow_push low high (q ∷ rs) r h is some = (h.0, h.1, follow_push (q.high +ℤ pos 1) high rs r h.2 is some)
 
-back : (n : ℤ) → n ≡ (n -ℤ pos 1) +ℤ pos 1
-back n = omega (arith, ints)
+minus_plus_one : (n : ℤ) → n ≡ (n -ℤ pos 1) +ℤ pos 1
+minus_plus_one n = omega (arith, ints)
 
-forth : (n : ℤ) → n ≡ (n +ℤ pos 1) -ℤ pos 1
-forth n = omega (arith, ints)
+plus_minus_one : (n : ℤ) → n ≡ (n +ℤ pos 1) -ℤ pos 1
+plus_minus_one n = omega (arith, ints)
 
 module _ (P : Problem) (later : List Var) (depth : ℕ) (bx : List Range) where
   -- none yet
   pub reached_none : (covered : Range) → Reached P later depth bx covered covered.low []
   reached_none covered = record {
     from = omega (arith, ints);
-    follow = back covered.low;
+    follow = minus_plus_one covered.low;
     to = λ some. absurd (some refl);
     below = λ k d h. absurd (omega (arith, h));
   }
@@ -163,11 +157,11 @@ module _ (P : Problem) (later : List Var) (depth : ℕ) (bx : List Range) where
   reached_more covered next parts pushed part reached here push = record {
     from = omega (arith, ints, reached.from, here.some);
     follow =
-        let low : (range_of part).low ≡ (next -ℤ pos 1) +ℤ pos 1 = here.low ∙ back next in
+        let low : (range_of part).low ≡ (next -ℤ pos 1) +ℤ pos 1 = here.low ∙ minus_plus_one next in
         let some : (range_of part).low ≤ℤ (range_of part).high = rw here.low here.some in
         let on = follow_push covered.low (next -ℤ pos 1) (map range_of parts) (range_of part) reached.follow low some in
         let lists : map range_of pushed ≡ map range_of parts ++ range_of part ∷ [] = ap (map range_of) push ∙ map-append range_of parts (part ∷ []) in
-        subst (λ n. FollowOn covered.low n (map range_of pushed)) (forth (range_of part).high) (subst (FollowOn covered.low (range_of part).high) (sym lists) on);
+        subst (λ n. FollowOn covered.low n (map range_of pushed)) (plus_minus_one (range_of part).high) (subst (FollowOn covered.low (range_of part).high) (sym lists) on);
     to = λ some. omega (arith, ints, here.high);
     below = subst (All (λ part. Shows P later (depth + 1) (slice_set bx depth (range_of part)) (below_of part))) (sym push)
         (All-push (λ part. Shows P later (depth + 1) (slice_set bx depth (range_of part)) (below_of part)) parts part reached.below here.below);

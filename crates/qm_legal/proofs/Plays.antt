@@ -33,11 +33,8 @@ use Rattle.qm_trees.specs.EmptyJudgement.{judge_empty}
 use Rattle.qm_trees.proofs.PickedPlays.{next_fits, rows_hold, skip_fits}
 use Rattle.qm_legal.specs.Queries.{AreFree, AreSet, IsIllegal, IsQuery, Shows, low_of, set_values}
 use Rattle.qm_legal.specs.SearchSteps.{IsCompleted, IsFound}
+use Rattle.qm_legal.proofs.Lows.{lows}
 use Rattle.qm_legal.proofs.RightTrees.{from_first}
-
--- the low ends of the universal variables
-abbrev pub lows : List Var → List Range → List ℤ
-lows xs bx = universal_part xs (map low_of bx)
 
 -- ---- a box in which all universal variables are set
 

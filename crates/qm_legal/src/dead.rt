@@ -5,7 +5,6 @@ ghost use Rattle.qm_game.specs.First.{HasNone, IsFirst};
 ghost use Rattle.qm_model.specs.Ranges.{range_at};
 
 use qm_game::{Bx, Game, Place, Range, Row, least};
-use qm_model::range_in;
 
 /// Whether the row is dead over the box.
 fn is_dead(game: &Game, row: &Row, bx: &Bx) -> bool
@@ -49,9 +48,9 @@ pub fn is_dead_with(here: Place<'_>, row: &Row, bx: &mut Bx, range: Range) -> bo
     ensures answer { IsTrue result ↔ IsDead (slice_set bx.old here.entry.depth range) row.now }
     ensures same { bx.new ≡ bx.old }
 {
-    let before = range_in(bx.as_slice(), here.depth);
-    bx.set(here.depth, range);
+    let before = here.range(bx);
+    here.put(bx, range);
     let answer = is_dead(here.game, row, bx);
-    bx.set(here.depth, before);
+    here.put(bx, before);
     answer
 }

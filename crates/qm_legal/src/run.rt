@@ -7,7 +7,6 @@ ghost use Rattle.qm_legal.specs.SearchSteps.{range_to};
 
 use crate::dead::is_dead_with;
 use qm_game::{Bx, Place, Range, Row};
-use qm_model::range_in;
 
 /// Whether the range has values from `next` on.
 pub fn is_left(next: i128, covered: Range) -> bool
@@ -88,7 +87,7 @@ pub fn dead_run(here: Place<'_>, row: &Row, bx: &mut Bx, run: Range) -> Range
     ensures dead { IsDead (slice_set bx.old here.entry.depth result) row.now }
     ensures same { bx.new ≡ bx.old }
 {
-    let covered = range_in(bx.as_slice(), here.depth);
+    let covered = here.range(bx);
     let mut bracket = upper(covered, run);
     while bracket.low < bracket.high {
         let tried = halved(run, bracket);

@@ -8,7 +8,7 @@ use crate::part::{dead_part, part_of};
 use crate::run::{is_left, single_at};
 use qm_game::{Bx, Place, Range};
 use qm_io::Memory;
-use qm_model::{after, is_for_all, range_in, start};
+use qm_model::{after, is_for_all, start};
 use qm_trees::{Empty, EmptyPart};
 use sqlite_items::Items;
 use std::alloc::Global;
@@ -49,7 +49,7 @@ fn search_values(alloc: Global, here: Place<'_>, bx: &mut Bx) -> Result<Option<E
     requires player { SetsNext Universal here.rest.now }
     ensures { IfOk result (IsFound here.entry.game.now here.entry.rest.now here.entry.depth bx.old bx.new) }
 {
-    let covered = range_in(bx.as_slice(), here.depth);
+    let covered = here.range(bx);
     let mut parts = Items::new(alloc);
     let mut next = start(covered);
     while is_left(next, covered) {
@@ -80,18 +80,18 @@ fn search_part(
     requires run { IsOneOf (range_at bx.old here.depth) run }
     ensures { IfOk result (IsFoundPart here.entry.game.now (drop 1 here.entry.rest.now) here.entry.depth bx.old bx.new run.low) }
 {
-    let before = range_in(bx.as_slice(), here.depth);
-    bx.set(here.depth, run);
+    let before = here.range(bx);
+    here.put(bx, run);
     match dead_row(here.game, bx) {
         Some(number) => {
-            bx.set(here.depth, before);
+            here.put(bx, before);
             let part = dead_part(alloc, here, number, bx, run)?;
             Ok(Some(part))
         }
         None => match search(alloc, here.behind(), bx)? {
             None => Ok(None),
             Some(below) => {
-                bx.set(here.depth, before);
+                here.put(bx, before);
                 Ok(Some(part_of(run, below)))
             }
         },

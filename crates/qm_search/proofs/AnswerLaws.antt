@@ -22,6 +22,7 @@ use Rattle.qm_trees.specs.PolicyRight as policy_right
 use Rattle.qm_trees.specs.PolicyRight.{IsRightPolicy, IsPolicyInRange}
 use Rattle.qm_trees.proofs.SmallerValues.{right_at_less, in_range_at}
 use Rattle.qm_legal.specs.Queries.{Shows}
+use Rattle.qm_legal.specs.SearchSteps.{SetsNext}
 use Rattle.qm_search.specs.declared.answers.Answers.{Answers}
 use Rattle.qm_search.specs.declared.answers.Worst.{Worst}
 use Rattle.qm_search.specs.AnswerSteps.{AreAnswers, IsAnswered, IsLeast, IsWorst, SecuresWorst, worse_of}
@@ -140,9 +141,11 @@ module _ (P : Problem) (rest : List Var) (depth : ℕ) (bx : List Range) where
 answers_is : (parts : List PolicyPart) → out-Policy (Answer parts) ≡ policy_node.Answer parts
 answers_is parts = ap out-Policy (sym (rolls-Answer parts)) ∙ out-roll-Policy (policy_node.Answer parts)
 
-pub all_answered : (P : Problem) (x : Var) (later : List Var) (depth : ℕ) (bx : List Range) (first next : ℤ) (answers : Answers) (worst : Worst) → x.player ≡ Universal → AreAnswers P (x ∷ later) depth bx first (range_at bx depth).low next answers
-    → IsBehind (range_at bx depth) next → answers.worst ≡ Some worst → IsReached P (x ∷ later) depth bx worst.value (Answer answers.parts) worst.refute
-all_answered P x later depth bx first next answers worst player are behind e =
+pub all_answered : (P : Problem) (rest : List Var) (depth : ℕ) (bx : List Range) (first next : ℤ) (answers : Answers) (worst : Worst) → SetsNext Universal rest
+    → AreAnswers P rest depth bx first (range_at bx depth).low next answers → IsBehind (range_at bx depth) next → answers.worst ≡ Some worst
+    → IsReached P rest depth bx worst.value (Answer answers.parts) worst.refute
+all_answered P [] depth bx first next answers worst player are behind e = absurd player
+all_answered P (x ∷ later) depth bx first next answers worst player are behind e =
     let parts = answers.parts in
     let v = worst.value in
     let least : IsLeast P (x ∷ later) depth bx worst = subst (IsWorst P (x ∷ later) depth bx first next) e are.worst in

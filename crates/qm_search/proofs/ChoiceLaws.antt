@@ -1,5 +1,5 @@
 -- The choices of an existential variable: one more, and what all come to.
-use Rattle.std.proofs.Common.{◌≡◌, ℕ, ◌+◌, Bool, true, false, List, [], ◌∷◌, ◌++◌, map, get_or, All, arith, refl, sym, ap, subst, ◌∙◌, ℤ, pos, ◌+ℤ◌, ◌≤ℤ◌, ◌<ℤ◌, Option, Some, None}
+use Rattle.std.proofs.Common.{◌≡◌, ℕ, ◌+◌, Bool, true, false, List, [], ◌∷◌, ◌++◌, map, drop, get_or, All, arith, refl, sym, ap, subst, ◌∙◌, ℤ, pos, ◌+ℤ◌, ◌≤ℤ◌, ◌<ℤ◌, Option, Some, None}
 use Rattle.std.specs.Prelude.{slice_set, if◌then◌else◌}
 use Rattle.std.proofs.lemmas.Int.{ints}
 use Rattle.std.proofs.lemmas.List.Elements.{All-push}
@@ -24,9 +24,10 @@ use Rattle.qm_trees.specs.PolicyRight.{IsRightPolicy, IsPolicyInRange}
 use Rattle.qm_trees.specs.RefuteJudgement.{range_of, below_of}
 use Rattle.qm_trees.specs.RefuteRight.{IsRightMove, IsRightRefutation, IsMoveInRange, IsRefutationInRange}
 use Rattle.qm_trees.proofs.HarderGoals.{right_at_harder, in_range_at_harder}
+use Rattle.qm_legal.specs.SearchSteps.{SetsNext}
 use Rattle.qm_search.specs.declared.choices.Best.{Best}
 use Rattle.qm_search.specs.declared.choices.Choices.{Choices}
-use Rattle.qm_search.specs.ChoiceSteps.{AreChoices, IsBest, better_of, goal_beyond}
+use Rattle.qm_search.specs.ChoiceSteps.{AreChoices, IsBest, IsTried, better_of, goal_beyond}
 use Rattle.qm_search.specs.OutcomeSteps.{IsReached, Secures, Refutes}
 use Rattle.qm_search.specs.PartSteps.{AreSingles, IsBehind}
 use Rattle.qm_search.proofs.BelowTests.{at_most_of_below, at_most_of_not}
@@ -112,36 +113,43 @@ module _ (P : Problem) (later : List Var) (depth : ℕ) (bx : List Range) where
       pub reached_choice : (best : Option Best) → best ≡ better_of choices.best found → AreChoices P later depth bx low (next +ℤ pos 1) (record { best = best; parts = parts })
       reached_choice best e = subst (λ b. AreChoices P later depth bx low (next +ℤ pos 1) (record { best = b; parts = parts })) (sym e) (reached_by choices.best refl)
 
-  -- ---- what all choices come to
+-- ---- what all choices come to
 
-  overs : (parts : List RefutePart) → out-Refute (Over parts) ≡ node.Over parts
-  overs parts = ap out-Refute (sym (rolls-Over parts)) ∙ out-roll-Refute (node.Over parts)
+overs : (parts : List RefutePart) → out-Refute (Over parts) ≡ node.Over parts
+overs parts = ap out-Refute (sym (rolls-Over parts)) ∙ out-roll-Refute (node.Over parts)
 
-  chooses : (value : ℤ) (below : Policy) → out-Policy (Choose value below) ≡ policy_node.Choose value below
-  chooses value below = ap out-Policy (sym (rolls-Choose value below)) ∙ out-roll-Policy (policy_node.Choose value below)
+chooses : (value : ℤ) (below : Policy) → out-Policy (Choose value below) ≡ policy_node.Choose value below
+chooses value below = ap out-Policy (sym (rolls-Choose value below)) ∙ out-roll-Policy (policy_node.Choose value below)
 
-  module _ (x : Var) (player : x.player ≡ Exists) (choices : Choices) (next : ℤ) (are : AreChoices P later depth bx (range_at bx depth).low next choices)
-      (behind : IsBehind (range_at bx depth) next) where
-    pub over_refutes : Refutes P (x ∷ later) depth bx (goal_beyond choices.best) (Over choices.parts)
-    over_refutes =
-        let G = goal_beyond choices.best in
-        record {
-          right = subst (IsRightMove P [] G x later depth (IsRightRefutation P [] [] G later (depth + 1)) bx) (sym (overs choices.parts))
-              (singles_cover (range_at bx depth) next (map range_of choices.parts) are.singles behind, (λ universal. cc), (λ k d h. (are.below k d h).right));
-          in_range = subst (IsMoveInRange P [] G depth (IsRefutationInRange P [] [] G later (depth + 1)) bx) (sym (overs choices.parts)) (λ k d h. (are.below k d h).in_range);
-        }
+pub over_refutes : (P : Problem) (rest : List Var) (depth : ℕ) (bx : List Range) (choices : Choices) (next : ℤ) → SetsNext Exists rest
+    → AreChoices P (drop 1 rest) depth bx (range_at bx depth).low next choices → IsBehind (range_at bx depth) next → Refutes P rest depth bx (goal_beyond choices.best) (Over choices.parts)
+over_refutes P [] depth bx choices next player are behind = absurd player
+over_refutes P (x ∷ later) depth bx choices next player are behind =
+    let G = goal_beyond choices.best in
+    record {
+      right = subst (IsRightMove P [] G x later depth (IsRightRefutation P [] [] G later (depth + 1)) bx) (sym (overs choices.parts))
+          (singles_cover (range_at bx depth) next (map range_of choices.parts) are.singles behind, (λ universal. cc), (λ k d h. (are.below k d h).right));
+      in_range = subst (IsMoveInRange P [] G depth (IsRefutationInRange P [] [] G later (depth + 1)) bx) (sym (overs choices.parts)) (λ k d h. (are.below k d h).in_range);
+    }
 
-    pub choice_reached : (best : Best) → choices.best ≡ Some best → IsReached P (x ∷ later) depth bx best.value (Choose best.choice best.policy) (Over choices.parts)
-    choice_reached best e =
-        let tried : IsBest P later depth bx (range_at bx depth).low next (Some best) = subst (IsBest P later depth bx (range_at bx depth).low next) e are.best in
-        let some : (range_at bx depth).low <ℤ next = omega (arith, ints, tried.from, tried.before) in
-        let secures : Secures P (x ∷ later) depth bx best.value (Choose best.choice best.policy) = record {
-          right = subst (policy_right.IsRightMove P x depth (IsRightPolicy P best.value later (depth + 1)) bx) (sym (chooses best.choice best.policy))
-              (player, (tried.from, omega (arith, ints, tried.before, behind.near some)), tried.secures.right);
-          in_range = subst (policy_right.IsMoveInRange P depth (IsPolicyInRange P best.value later (depth + 1)) bx) (sym (chooses best.choice best.policy)) tried.secures.in_range;
-        } in
-        record {
-          positive = tried.positive;
-          secures = secures;
-          refutes = subst (λ b. Refutes P (x ∷ later) depth bx (goal_beyond b) (Over choices.parts)) e over_refutes;
-        }
+best_secures : (P : Problem) (rest : List Var) (depth : ℕ) (bx : List Range) (next : ℤ) (best : Best) → SetsNext Exists rest → IsTried P (drop 1 rest) depth bx (range_at bx depth).low next best
+    → IsBehind (range_at bx depth) next → Secures P rest depth bx best.value (Choose best.choice best.policy)
+best_secures P [] depth bx next best player tried behind = absurd player
+best_secures P (x ∷ later) depth bx next best player tried behind =
+    let some : (range_at bx depth).low <ℤ next = omega (arith, ints, tried.from, tried.before) in
+    record {
+      right = subst (policy_right.IsRightMove P x depth (IsRightPolicy P best.value later (depth + 1)) bx) (sym (chooses best.choice best.policy))
+          (player, (tried.from, omega (arith, ints, tried.before, behind.near some)), tried.secures.right);
+      in_range = subst (policy_right.IsMoveInRange P depth (IsPolicyInRange P best.value later (depth + 1)) bx) (sym (chooses best.choice best.policy)) tried.secures.in_range;
+    }
+
+pub choice_reached : (P : Problem) (rest : List Var) (depth : ℕ) (bx : List Range) (choices : Choices) (next : ℤ) → SetsNext Exists rest
+    → AreChoices P (drop 1 rest) depth bx (range_at bx depth).low next choices → IsBehind (range_at bx depth) next → (best : Best) → choices.best ≡ Some best
+    → IsReached P rest depth bx best.value (Choose best.choice best.policy) (Over choices.parts)
+choice_reached P rest depth bx choices next player are behind best e =
+    let tried : IsBest P (drop 1 rest) depth bx (range_at bx depth).low next (Some best) = subst (IsBest P (drop 1 rest) depth bx (range_at bx depth).low next) e are.best in
+    record {
+      positive = tried.positive;
+      secures = best_secures P rest depth bx next best player tried behind;
+      refutes = subst (λ b. Refutes P rest depth bx (goal_beyond b) (Over choices.parts)) e (over_refutes P rest depth bx choices next player are behind);
+    }

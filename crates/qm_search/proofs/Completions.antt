@@ -3,6 +3,7 @@ use Rattle.std.proofs.Common.{◌≡◌, ℕ, zero, suc, ◌+◌, ◌<◌, ◌�
 use Rattle.std.specs.Prelude.{filter, ◌⊎◌, if◌then◌else◌}
 use Rattle.std.proofs.lemmas.List.{length-map}
 use Rattle.std.proofs.lemmas.List.Elements.{All-nil}
+use Rattle.qm_math.specs.Ranges.{IsBetween}
 use Rattle.qm_model.specs.declared.range.Range.{Range}
 use Rattle.qm_model.specs.declared.variable.Player.TheVariants.{Exists, All as Universal}
 use Rattle.qm_model.specs.declared.variable.Var.{Var}
@@ -11,10 +12,11 @@ use Rattle.qm_model.specs.Legal.{universal_part}
 use Rattle.qm_model.specs.Plays.{AreWithin, BeginWithin, HoldsAt, IsPlay, IsWithin, is_universal, spread, universal_vars, whole_vars}
 use Rattle.qm_model.proofs.Legality.{both_within, parts_within}
 use Rattle.qm_model.proofs.Players.{is_for_all, not_universal}
-use Rattle.qm_model.specs.Ranges.{single}
+use Rattle.qm_model.specs.Ranges.{range_at, single}
+use Rattle.qm_legal.specs.SearchSteps.{SetsNext}
 use Rattle.qm_legal.specs.Queries.{low_of, set_values}
 use Rattle.qm_search.specs.PlaceSteps.{Completes, IsSearchBox, next_value}
-use Rattle.qm_search.proofs.SearchBoxes.{below}
+use Rattle.qm_search.proofs.SearchBoxes.{below, range_is, within_bounds}
 
 -- ---- the universal values of the first variables
 
@@ -55,7 +57,7 @@ values_rest (x ∷ xs) (suc n) (v ∷ vs) long = by (is_universal x) (values_res
 -- ---- completions at a box
 
 -- a completion at a universal variable begins with a value of it
-pub record Begins (x : Var) (later : List Var) (completion : List ℤ) : Type 0 where
+record Begins (x : Var) (later : List Var) (completion : List ℤ) : Type 0 where
   pub some : 0 < length completion
   pub is : completion ≡ next_value completion ∷ drop 1 completion
   pub within : IsWithin x (next_value completion)
@@ -87,7 +89,7 @@ module _ (P : Problem) (x : Var) (later : List Var) (depth : ℕ) (bx : List Ran
       rw one (values_push (whole_vars P) depth bx x later v (sym from_depth) first)
 
   -- an existential variable's value leaves each completion one
-  pub completes_existential : (v : ℤ) (completion : List ℤ) → x.player ≡ Exists → Completes P depth bx completion → Completes P (depth + 1) (set bx depth (single v)) completion
+  completes_existential : (v : ℤ) (completion : List ℤ) → x.player ≡ Exists → Completes P depth bx completion → Completes P (depth + 1) (set bx depth (single v)) completion
   completes_existential v completion player completes =
       let values = set_values-more v ∙ ap (λ (b : Bool). set_values P depth bx ++ (if b then v ∷ [] else [])) (not_universal x player) ∙ append-nil (set_values P depth bx) in
       subst (λ us. IsPlay P (us ++ completion)) (sym values) completes
@@ -100,15 +102,15 @@ module _ (P : Problem) (x : Var) (later : List Var) (depth : ℕ) (bx : List Ran
         sym (append_assoc (set_values P depth bx) (v ∷ []) others) ∙ ap (λ us. us ++ others) (sym values)
 
     module _ (completion : List ℤ) (completes : Completes P depth bx completion) where
-      pub begins_here : Begins x later completion
-      begins_here =
+      begins_of : Begins x later completion
+      begins_of =
           let within = completion_within P (x ∷ later) depth bx from_depth (omega (arith, first)) completion completes in
           begins x later completion (subst (λ (b : Bool). AreWithin (if b then x ∷ filter is_universal later else filter is_universal later) completion) (is_for_all x player) within)
 
       -- the first value is legal, and the others complete it
       completes_first : (v : ℤ) → v ≡ next_value completion → Completes P (depth + 1) (set bx depth (single v)) (drop 1 completion)
       completes_first v e =
-          let whole : completion ≡ v ∷ drop 1 completion = subst (λ u. completion ≡ u ∷ drop 1 completion) (sym e) begins_here.is in
+          let whole : completion ≡ v ∷ drop 1 completion = subst (λ u. completion ≡ u ∷ drop 1 completion) (sym e) begins_of.is in
           subst (IsPlay P) (ap (λ us. set_values P depth bx ++ us) whole ∙ values_before v (drop 1 completion)) completes
 
       -- so are all values where no uncertainty row is there
@@ -119,14 +121,42 @@ module _ (P : Problem) (x : Var) (later : List Var) (depth : ℕ) (bx : List Ran
           let rest : drop (length us) (universal_vars P) ≡ x ∷ filter is_universal later =
           universal_rest P (x ∷ later) depth bx from_depth long completion completes ∙ ap (λ (b : Bool). if b then x ∷ filter is_universal later else filter is_universal later) (is_for_all x player) in
           let firsts = (values_within P (x ∷ later) depth bx from_depth long completion completes).0 in
-          let lasts : AreWithin (drop (length us) (universal_vars P)) (v ∷ drop 1 completion) = subst (λ xs. AreWithin xs (v ∷ drop 1 completion)) (sym rest) (within, begins_here.others) in
+          let lasts : AreWithin (drop (length us) (universal_vars P)) (v ∷ drop 1 completion) = subst (λ xs. AreWithin xs (v ∷ drop 1 completion)) (sym rest) (within, begins_of.others) in
           let play : IsPlay P (us ++ v ∷ drop 1 completion) = record {
             within = both_within (universal_vars P) us (v ∷ drop 1 completion) firsts lasts;
-            rows = subst (All (HoldsAt (spread (whole_vars P) (us ++ v ∷ drop 1 completion)))) (sym none) (All-nil _);
+            rows = subst (All (HoldsAt (spread (whole_vars P) (us ++ v ∷ drop 1 completion)))) (sym none) (All-nil (HoldsAt (spread (whole_vars P) (us ++ v ∷ drop 1 completion))));
           } in
           subst (IsPlay P) (values_before v (drop 1 completion)) play
 
       -- a value that goes on as the completion does
-      pub completes_known : (v : ℤ) → IsWithin x v → ((P.urows ≡ []) ⊎ (v ≡ next_value completion)) → Completes P (depth + 1) (set bx depth (single v)) (drop 1 completion)
+      completes_known : (v : ℤ) → IsWithin x v → ((P.urows ≡ []) ⊎ (v ≡ next_value completion)) → Completes P (depth + 1) (set bx depth (single v)) (drop 1 completion)
       completes_known v within (inl none) = completes_free v none within
       completes_known v within (inr first) = completes_first v first
+
+-- ---- values of the next variable
+
+-- the completion's value of the next variable lies in its range
+pub record BeginsInRange (depth : ℕ) (bx : List Range) (completion : List ℤ) : Type 0 where
+  pub some : 0 < length completion
+  pub within : IsBetween (range_at bx depth).low (range_at bx depth).high (next_value completion)
+
+module _ (P : Problem) where
+  pub begins_here : (rest : List Var) (depth : ℕ) (bx : List Range) → rest ≡ drop depth (whole_vars P) → IsSearchBox P depth bx → SetsNext Universal rest → (completion : List ℤ) → Completes P depth bx completion
+      → BeginsInRange depth bx completion
+  begins_here [] depth bx from_depth here player completion completes = absurd player
+  begins_here (x ∷ later) depth bx from_depth here player completion completes =
+      let first = begins_of P x later depth bx from_depth here player completion completes in
+      record { some = first.some; within = rw (range_is P x later depth bx from_depth here) first.within }
+
+  -- a value of an existential variable leaves a completion one
+  pub completes_choice : (rest : List Var) (depth : ℕ) (bx : List Range) → rest ≡ drop depth (whole_vars P) → IsSearchBox P depth bx → SetsNext Exists rest → (completion : List ℤ) → Completes P depth bx completion
+      → (v : ℤ) → Completes P (depth + 1) (set bx depth (single v)) completion
+  completes_choice [] depth bx from_depth here player completion completes v = absurd player
+  completes_choice (x ∷ later) depth bx from_depth here player completion completes v = completes_existential P x later depth bx from_depth here v completion player completes
+
+  -- a value of a universal variable that goes on as the completion does
+  pub completes_answer : (rest : List Var) (depth : ℕ) (bx : List Range) → rest ≡ drop depth (whole_vars P) → IsSearchBox P depth bx → SetsNext Universal rest → (completion : List ℤ) → Completes P depth bx completion
+      → (v : ℤ) → IsBetween (range_at bx depth).low (range_at bx depth).high v → ((P.urows ≡ []) ⊎ (v ≡ next_value completion)) → Completes P (depth + 1) (set bx depth (single v)) (drop 1 completion)
+  completes_answer [] depth bx from_depth here player completion completes v within known = absurd player
+  completes_answer (x ∷ later) depth bx from_depth here player completion completes v within known =
+      completes_known P x later depth bx from_depth here player completion completes v (within_bounds P x later depth bx from_depth here v within) known

@@ -15,7 +15,7 @@ use Rattle.qm_model.specs.declared.game.Problem.{Problem}
 use Rattle.qm_model.specs.Boxes.{greatest_value, whole_box_of}
 use Rattle.qm_model.specs.Legal.{universal_part}
 use Rattle.qm_model.specs.Linear.{HasVarsBelow, form}
-use Rattle.qm_model.specs.Plays.{HoldsAt, IsWithin, spread, whole_vars}
+use Rattle.qm_model.specs.Plays.{HoldsAt, spread, whole_vars}
 use Rattle.qm_model.specs.Sound.{IsOverUniversal, IsRowOver, IsSound}
 use Rattle.qm_model.proofs.Forms.{sum_over-each}
 use Rattle.qm_model.proofs.Players.{by_player, is_for_all, not_universal}
@@ -24,6 +24,7 @@ use Rattle.qm_trees.specs.Picks.{Fit, HoldsOnBox, fixed, picked}
 use Rattle.qm_model.specs.Ranges.{range_at, single}
 use Rattle.qm_trees.specs.RefuteRight.{IsRightPick}
 use Rattle.qm_trees.proofs.PickedPlays.{between_itself, fit_at, fit_fixed, fit_next, fit_skip, next_fits, skip_fits, within_fits}
+use Rattle.qm_legal.specs.SearchSteps.{SetsNext}
 use Rattle.qm_legal.specs.Queries.{low_of, set_values}
 use Rattle.qm_legal.specs.Queries.{AreSet}
 use Rattle.qm_legal.proofs.Plays.{set_at, set_long}
@@ -111,9 +112,8 @@ module _ (P : Problem) (x : Var) (later : List Var) (depth : ℕ) (bx : List Ran
       let after = completion_within P later (depth + 1) (set bx depth (single v)) from_next (omega (arith, first, length-set bx depth (single v))) completion completes in
       subst (λ rs. Fit later rs completion) (ap whole_box_of (append-nil later) ∙ sym (later_ranges P x later depth bx from_depth here)) (within_fits later [] completion after)
 
-  -- the value and the completion are a right pick
-  pub right_pick : IsRightPick P later depth bx v completion
-  right_pick =
+  right_pick_of : IsRightPick P later depth bx v completion
+  right_pick_of =
       let first = below P x later depth bx from_depth here in
       let long : depth ≤ length bx = omega (arith, first) in
       let tail = fixed later (drop (depth + 1) bx) completion in
@@ -131,3 +131,10 @@ module _ (P : Problem) (x : Var) (later : List Var) (depth : ℕ) (bx : List Ran
         completion_fits = fits_later;
         rows = λ k d h. holds_on_box P here.sound (picked depth later bx v completion) us fits are (get_or P.urows k d) (here.sound.urows k d h) (here.sound.urows_universal k d h) (held k d h);
       }
+
+-- a value of the next variable, and what completes it, are a right pick
+pub right_pick : (P : Problem) (rest : List Var) (depth : ℕ) (bx : List Range) → rest ≡ drop depth (whole_vars P) → IsSearchBox P depth bx → SetsNext Universal rest
+    → (v : ℤ) → IsBetween (range_at bx depth).low (range_at bx depth).high v → (completion : List ℤ) → Completes P (depth + 1) (set bx depth (single v)) completion
+    → IsRightPick P (drop 1 rest) depth bx v completion
+right_pick P [] depth bx from_depth here player v within completion completes = absurd player
+right_pick P (x ∷ later) depth bx from_depth here player v within completion completes = right_pick_of P x later depth bx from_depth here player v within completion completes

@@ -1,10 +1,9 @@
 -- How the search goes from box to box.
-use Rattle.std.proofs.Common.{add-zero, ◌≡◌, ℕ, zero, suc, ◌+◌, ◌<◌, ◌≤◌, max, List, [], ◌∷◌, length, get_or, drop, take, set, All, arith, refl, sym, ap, subst, ◌∙◌, ℤ, pos, ◌+ℤ◌, ◌≤ℤ◌, ◌<ℤ◌, unsigned_abs, Some}
+use Rattle.std.proofs.Common.{add-zero, ◌≡◌, ℕ, zero, suc, ◌+◌, ◌<◌, ◌≤◌, List, [], ◌∷◌, length, get_or, drop, take, set, All, arith, refl, sym, ap, subst, ◌∙◌, ℤ, pos}
 use Rattle.std.proofs.lemmas.List.{drop-drop, drop-set-lt, drop-map, get_or-drop, length-drop, length-take, take_all, take_more_set}
 use Rattle.std.proofs.lemmas.List.Elements.{All-head, All-nil, All-push, All-tail}
 use Rattle.qm_math.specs.Ranges.{IsBetween}
 use Rattle.qm_model.specs.declared.range.Range.{Range}
-use Rattle.qm_model.specs.declared.variable.Player.{Player}
 use Rattle.qm_model.specs.declared.variable.Var.{Var}
 use Rattle.qm_model.specs.declared.game.Problem.{Problem}
 use Rattle.qm_model.specs.Boxes.{bounds_of, whole_box_of}
@@ -12,10 +11,9 @@ use Rattle.qm_model.specs.Plays.{IsWithin, whole_vars}
 use Rattle.qm_model.specs.Sound.{IsSound}
 use Rattle.qm_model.proofs.BoxLaws.{IsBox-length, whole_box_is_box}
 use Rattle.qm_model.specs.Ranges.{range_at, single}
+use Rattle.qm_game.proofs.NextVariables.{next_in_box}
 use Rattle.qm_legal.specs.Queries.{AreFree, AreSet, IsQuery}
-use Rattle.qm_legal.specs.SearchSteps.{SetsNext}
 use Rattle.qm_legal.proofs.Boxes.{one_inside, set_in_box}
-use Rattle.qm_legal.proofs.Places.{next_below}
 use Rattle.qm_search.specs.PlaceSteps.{IsSearchBox, IsSingle}
 
 pub whole_vars_all : (P : Problem) → P.wholes ≡ length P.vars → whole_vars P ≡ P.vars
@@ -23,20 +21,9 @@ whole_vars_all P whole = take_all P.wholes P.vars (omega (arith, whole))
 
 -- ---- the next variable
 
--- the next variable, which the player sets, and those behind it
-pub record Next (player : Player) (rest : List Var) : Type 0 where
-  pub x : Var
-  pub later : List Var
-  pub is : rest ≡ x ∷ later
-  pub player_is : x.player ≡ player
-
-pub next_of : (player : Player) (rest : List Var) → SetsNext player rest → Next player rest
-next_of player [] sets = absurd sets
-next_of player (x ∷ later) sets = record { x = x; later = later; is = refl; player_is = sets }
-
 module _ (P : Problem) (x : Var) (later : List Var) (depth : ℕ) (bx : List Range) (from_depth : x ∷ later ≡ drop depth (whole_vars P)) (here : IsSearchBox P depth bx) where
   pub below : depth < length bx
-  below = next_below P depth bx (x ∷ later) from_depth (omega arith) here.box
+  below = next_in_box P (x ∷ later) depth bx from_depth (omega arith) here.box
 
   -- its range is its bounds
   pub range_is : range_at bx depth ≡ bounds_of x
@@ -60,7 +47,7 @@ module _ (P : Problem) (rest : List Var) (depth : ℕ) (bx : List Range) (from_d
   -- the box after the next variable is set
   pub next_box : (v : ℤ) → IsBetween (range_at bx depth).low (range_at bx depth).high v → IsSearchBox P (depth + 1) (set bx depth (single v))
   next_box v within =
-      let first = next_below P depth bx rest from_depth some here.box in
+      let first = next_in_box P rest depth bx from_depth some here.box in
       let inside = one_inside (range_at bx depth) (single v) (record { single = refl; low = within.0; high = within.1 }) in
       let others : drop (depth + 1) bx ≡ whole_box_of (drop (depth + 1) (whole_vars P)) =
       sym (drop-drop 1 depth bx) ∙ ap (drop 1) here.others ∙ drop-map bounds_of 1 (drop depth (whole_vars P)) ∙ ap whole_box_of (drop-drop 1 depth (whole_vars P)) in

@@ -1,4 +1,4 @@
-ghost use Rattle.std.specs.Prelude.{◌≡◌, ◌∷◌, ◌+◌, ℕ, ℤ, List, IfOk, slice_set};
+ghost use Rattle.std.specs.Prelude.{◌≡◌, ◌+◌, ℕ, ℤ, List, IfOk, drop, slice_set};
 ghost use Rattle.qm_model.specs.declared.game.Problem.{Problem};
 ghost use Rattle.qm_model.specs.declared.range.Range.{Range};
 ghost use Rattle.qm_model.specs.declared.variable.Player.TheVariants.{All as Universal};
@@ -6,6 +6,7 @@ ghost use Rattle.qm_model.specs.declared.variable.Var.{Var};
 ghost use Rattle.qm_model.specs.Goals.{Goal};
 ghost use Rattle.qm_model.specs.Ranges.{single};
 ghost use Rattle.qm_trees.specs.RefuteRight.{IsRightPick};
+ghost use Rattle.qm_legal.specs.SearchSteps.{SetsNext};
 ghost use Rattle.qm_search.specs.AnswerSteps.{IsRightAnswer};
 ghost use Rattle.qm_search.specs.OutcomeSteps.{IsOutcome, Refutes};
 
@@ -40,7 +41,7 @@ pub enum Reply {
 
 /// The universal player's pick of a value, with a completion.
 fn pick(alloc: Global, value: i64, completion: List<i64>, below: Refute) -> Result<Refute, Memory>
-    ensures { (P : Problem) (x : Var) (later : List Var) (depth : ℕ) (bx : List Range) (G : Goal) → x.player ≡ Universal → IsRightPick P later depth bx value completion → Refutes P later (depth + 1) (slice_set bx depth (single value)) G below → IfOk result (Refutes P (x ∷ later) depth bx G) }
+    ensures { (P : Problem) (rest : List Var) (depth : ℕ) (bx : List Range) (G : Goal) → SetsNext Universal rest → IsRightPick P (drop 1 rest) depth bx value completion → Refutes P (drop 1 rest) (depth + 1) (slice_set bx depth (single value)) G below → IfOk result (Refutes P rest depth bx G) }
 {
     Ok(Refute::Pick {
         value,
@@ -56,7 +57,7 @@ pub fn legal_answer(
     completion: List<i64>,
     outcome: Outcome,
 ) -> Result<Answer, Memory>
-    ensures { (P : Problem) (x : Var) (later : List Var) (depth : ℕ) (bx : List Range) (first : ℤ) → x.player ≡ Universal → IsRightPick P later depth bx at completion → IsOutcome P later (depth + 1) (slice_set bx depth (single at)) outcome → IfOk result (IsRightAnswer P (x ∷ later) depth bx first at) }
+    ensures { (P : Problem) (rest : List Var) (depth : ℕ) (bx : List Range) (first : ℤ) → SetsNext Universal rest → IsRightPick P (drop 1 rest) depth bx at completion → IsOutcome P (drop 1 rest) (depth + 1) (slice_set bx depth (single at)) outcome → IfOk result (IsRightAnswer P rest depth bx first at) }
 {
     match outcome {
         Outcome::Lost(refute) => Ok(Answer::Lost(pick(alloc, at, completion, refute)?)),

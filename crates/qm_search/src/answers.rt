@@ -1,4 +1,4 @@
-ghost use Rattle.std.specs.Prelude.{◌≡◌, ◌∷◌, ◌+◌, ℕ, ℤ, pos, ◌+ℤ◌, ◌≤ℤ◌, List, IfOk, IsSome};
+ghost use Rattle.std.specs.Prelude.{◌≡◌, ◌+◌, ℕ, ℤ, pos, ◌+ℤ◌, ◌≤ℤ◌, List, IfOk, IsSome};
 ghost use Rattle.qm_model.specs.declared.game.Problem.{Problem};
 ghost use Rattle.qm_model.specs.declared.range.Range.{Range};
 ghost use Rattle.qm_model.specs.declared.variable.Player.TheVariants.{All as Universal};
@@ -6,6 +6,7 @@ ghost use Rattle.qm_model.specs.declared.variable.Var.{Var};
 ghost use Rattle.qm_model.specs.Ranges.{range_at, single};
 ghost use Rattle.qm_trees.specs.declared.policy.Below.TheOpen as node;
 ghost use Rattle.qm_trees.specs.PolicyJudgement.{below_of, range_of};
+ghost use Rattle.qm_legal.specs.SearchSteps.{SetsNext};
 ghost use Rattle.qm_search.specs.AnswerSteps.{AreAnswers, IsReply, is_worse, worse_of};
 ghost use Rattle.qm_search.specs.OutcomeSteps.{IsOutcome};
 ghost use Rattle.qm_search.specs.PartSteps.{IsBehind};
@@ -95,7 +96,7 @@ impl Answers {
     /// What all the values come to.
     pub fn outcome(self) -> Outcome
         requires { IsSome self.worst }
-        ensures { (P : Problem) (x : Var) (later : List Var) (depth : ℕ) (bx : List Range) (first next : ℤ) → x.player ≡ Universal → AreAnswers P (x ∷ later) depth bx first (range_at bx depth).low next self → IsBehind (range_at bx depth) next → IsOutcome P (x ∷ later) depth bx result }
+        ensures { (P : Problem) (rest : List Var) (depth : ℕ) (bx : List Range) (first next : ℤ) → SetsNext Universal rest → AreAnswers P rest depth bx first (range_at bx depth).low next self → IsBehind (range_at bx depth) next → IsOutcome P rest depth bx result }
     {
         let Answers { worst, parts } = self;
         match worst {

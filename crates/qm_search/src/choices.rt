@@ -1,10 +1,11 @@
-ghost use Rattle.std.specs.Prelude.{◌≡◌, ◌∷◌, ◌+◌, ℕ, ℤ, pos, ◌+ℤ◌, ◌≤ℤ◌, List, IfOk, slice_set};
+ghost use Rattle.std.specs.Prelude.{◌≡◌, ◌+◌, ℕ, ℤ, pos, ◌+ℤ◌, ◌≤ℤ◌, List, IfOk, drop, slice_set};
 ghost use Rattle.qm_model.specs.declared.game.Problem.{Problem};
 ghost use Rattle.qm_model.specs.declared.range.Range.{Range};
 ghost use Rattle.qm_model.specs.declared.variable.Player.TheVariants.{Exists};
 ghost use Rattle.qm_model.specs.declared.variable.Var.{Var};
 ghost use Rattle.qm_model.specs.Ranges.{range_at, single};
 ghost use Rattle.qm_trees.specs.RefuteJudgement.{below_of, range_of};
+ghost use Rattle.qm_legal.specs.SearchSteps.{SetsNext};
 ghost use Rattle.qm_search.specs.ChoiceSteps.{AreChoices, better_of, is_better};
 ghost use Rattle.qm_search.specs.OutcomeSteps.{IsOutcome};
 ghost use Rattle.qm_search.specs.PartSteps.{IsBehind};
@@ -96,7 +97,7 @@ impl Choices {
 
     /// What all the choices come to.
     pub fn outcome(self, alloc: Global) -> Result<Outcome, Memory>
-        ensures { (P : Problem) (x : Var) (later : List Var) (depth : ℕ) (bx : List Range) (next : ℤ) → x.player ≡ Exists → AreChoices P later depth bx (range_at bx depth).low next self → IsBehind (range_at bx depth) next → IfOk result (IsOutcome P (x ∷ later) depth bx) }
+        ensures { (P : Problem) (rest : List Var) (depth : ℕ) (bx : List Range) (next : ℤ) → SetsNext Exists rest → AreChoices P (drop 1 rest) depth bx (range_at bx depth).low next self → IsBehind (range_at bx depth) next → IfOk result (IsOutcome P rest depth bx) }
     {
         let Choices { best, parts } = self;
         let refute = Refute::Over { parts };

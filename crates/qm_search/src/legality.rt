@@ -7,7 +7,7 @@ ghost use Rattle.qm_search.specs.PlaceSteps.{IsSearchBox, next_value};
 use qm_game::{Bx, Game, Place};
 use qm_io::{List, Memory};
 use qm_legal::{Legality, legal};
-use qm_model::{range_in, single};
+use qm_model::single;
 use std::alloc::Global;
 
 /// Whether the value goes on as the known completion does: it begins with it, or nothing but the bounds is asked of
@@ -44,9 +44,9 @@ pub fn legality(alloc: Global, here: Place<'_>, bx: &mut Bx, value: i64) -> Resu
     ensures legality { IfOk result (IsRightLegality here.entry.game.now (here.entry.depth + 1) (slice_set bx.old here.entry.depth (single value))) }
     ensures same { bx.new ≡ bx.old }
 {
-    let before = range_in(bx.as_slice(), here.depth);
-    bx.set(here.depth, single(value));
+    let before = here.range(bx);
+    here.put(bx, single(value));
     let answer = legal(alloc, here.game, here.depth as u32 + 1, bx);
-    bx.set(here.depth, before);
+    here.put(bx, before);
     answer
 }

@@ -16,7 +16,7 @@ use crate::outcome::Outcome;
 use qm_game::{Bx, Place};
 use qm_io::Memory;
 use qm_legal::Legality;
-use qm_model::{is_for_all, range_in, single};
+use qm_model::{is_for_all, single};
 use std::alloc::Global;
 
 /// The outcome from here on, where these values complete those of the universal variables that are set. The box stays
@@ -60,10 +60,10 @@ fn visit(
     ensures outcome { IfOk result (IsOutcome here.entry.game.now (drop 1 here.entry.rest.now) (here.entry.depth + 1) (slice_set bx.old here.entry.depth (single value))) }
     ensures same { bx.new ≡ bx.old }
 {
-    let before = range_in(bx.as_slice(), here.depth);
-    bx.set(here.depth, single(value));
+    let before = here.range(bx);
+    here.put(bx, single(value));
     let outcome = best(alloc, here.behind(), bx, completion);
-    bx.set(here.depth, before);
+    here.put(bx, before);
     outcome
 }
 
@@ -80,7 +80,7 @@ fn best_choice(
     ensures outcome { IfOk result (IsOutcome here.entry.game.now here.entry.rest.now here.entry.depth bx.old) }
     ensures same { bx.new ≡ bx.old }
 {
-    let covered = range_in(bx.as_slice(), here.depth);
+    let covered = here.range(bx);
     let mut choices = Choices::new(alloc);
     for choice in covered.low..=covered.high {
         let next = visit(alloc, here, bx, completion, choice)?;
@@ -131,7 +131,7 @@ fn worst_answer(
     ensures outcome { IfOk result (IsOutcome here.entry.game.now here.entry.rest.now here.entry.depth bx.old) }
     ensures same { bx.new ≡ bx.old }
 {
-    let covered = range_in(bx.as_slice(), here.depth);
+    let covered = here.range(bx);
     let mut answers = Answers::new(alloc);
     for value in covered.low..=covered.high {
         match answer_to(alloc, here, bx, completion, value)? {

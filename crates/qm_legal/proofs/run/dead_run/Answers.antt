@@ -1,11 +1,7 @@
 use Rattle.std.proofs.Common.{◌∙◌, arith}
 use Rattle.std.proofs.lemmas.Int.{ints}
 use Rattle.qm_legal.proofs.Parts.{dead_tried}
-use Rattle.qm_legal.proofs.Places.{next_below}
 use Rattle.qm_legal.proofs.run.dead_run.Goals as goal
-
-pub range_in-covered-requires : goal.range_in-covered-requires
-range_in-covered-requires c = rw c.as_slice.ensures (next_below c.args.here.game.now c.args.here.depth c.args.bx.now c.args.here.rest.now c.args.here.from_depth c.requires.next c.requires.bx)
 
 pub loop-bracket-preserved-then-is_dead_with : goal.loop-bracket-preserved-then-is_dead_with
 loop-bracket-preserved-then-is_dead_with c =

@@ -1,10 +1,8 @@
-use Rattle.std.proofs.Common.{subst, sym}
-use Rattle.qm_model.specs.Boxes.{whole_box_of}
+use Rattle.std.proofs.Common.{subst}
 use Rattle.qm_certfile.specs.declared.certificate.Certificate.TheVariants.{Empty}
 use Rattle.qm_certfile.proofs.ToldEndings.{told_ending}
 use Rattle.qm_legal.specs.Queries.{IsRightLegality}
 use Rattle.qm_legal.proofs.WholeBoxes.{whole_box_query}
-use Rattle.qm_search.proofs.SearchBoxes.{first_box}
 use Rattle.qm_search.proofs.ending.solve.Goals as goal
 
 pub legal-requires : goal.legal-requires

@@ -12,9 +12,14 @@ legal-answer-requires c =
     let depth = c.args.here.depth in
     let next = next_box P c.args.here.rest.now depth c.args.bx.now c.args.here.from_depth c.requires.some c.requires.bx c.args.value c.requires.within in
     let shallow = next_shallow P c.args.here.rest.now depth c.args.bx.now c.args.here.from_depth c.requires.some c.requires.bx in
-    rw (c.set.ensures, c.single.ensures, to_z-of_z w64 c.args.value c.ranges.value) (query P (depth + 1) (set c.args.bx.now depth (single c.args.value)) next shallow)
+    rw (c.put.ensures, c.single.ensures, to_z-of_z w64 c.args.value c.ranges.value) (query P (depth + 1) (set c.args.bx.now depth (single c.args.value)) next shallow)
+
+pub put-requires-2-clause-bx : goal.put-requires-2-clause-bx
+put-requires-2-clause-bx c =
+    let next = next_box c.args.here.game.now c.args.here.rest.now c.args.here.depth c.args.bx.now c.args.here.from_depth c.requires.some c.requires.bx c.args.value c.requires.within in
+    rw (c.put.ensures, c.single.ensures, to_z-of_z w64 c.args.value c.ranges.value) next.box
 
 pub returns-clause-same : goal.returns-clause-same
 returns-clause-same c =
-    put_back c.args.bx.now c.set.new.self c.set.new.self c.set-2.new.self c.args.here.depth c.single.result c.range_in-before.result
-    c.set.ensures refl c.set-2.ensures (rw c.as_slice.ensures at c.range_in-before.ensures)
+    put_back c.args.bx.now c.put.new.bx c.put.new.bx c.put-2.new.bx c.args.here.depth c.single.result c.range-before.result
+    c.put.ensures refl c.put-2.ensures c.range-before.ensures

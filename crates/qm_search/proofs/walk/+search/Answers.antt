@@ -1,12 +1,10 @@
-use Rattle.std.proofs.Common.{rules, refl, sym, ◌≡◌, ◌∷◌, ◌+◌, arith, ap, drop, length, subst, ◌∙◌, pos, ◌+ℤ◌, ◌≤ℤ◌, ◌<ℤ◌, to_z, set}
+use Rattle.std.proofs.Common.{rules, refl, sym, ◌≡◌, ◌+◌, arith, ap, drop, length, subst, ◌∙◌, pos, ◌+ℤ◌, ◌≤ℤ◌, ◌<ℤ◌, to_z, set}
 use Rattle.std.proofs.lemmas.Int.{ints, to_z-of_z}
 use Rattle.std.proofs.lemmas.List.{length-drop}
 use mir.Syntax.{w64}
 use mir.Val.{SFits}
-use Rattle.qm_math.specs.Ranges.{IsBetween}
 use Rattle.qm_model.specs.declared.range.Range.{Range}
 use Rattle.qm_model.specs.declared.variable.Player.TheVariants.{Exists, All as Universal}
-use Rattle.qm_model.specs.Plays.{whole_vars}
 use Rattle.qm_model.specs.Ranges.{range_at, single}
 use Rattle.qm_trees.specs.RefuteRight.{IsRightPick}
 use Rattle.qm_cover.proofs.Places.{put_back}
@@ -14,12 +12,11 @@ use Rattle.qm_legal.specs.Queries.{IsRightLegality}
 use Rattle.qm_legal.proofs.Places.{some_next}
 use Rattle.qm_search.specs.AnswerSteps.{AreAnswers, IsRightAnswer}
 use Rattle.qm_search.specs.ChoiceSteps.{AreChoices}
-use Rattle.qm_search.specs.OutcomeSteps.{IsOutcome}
 use Rattle.qm_search.specs.PlaceSteps.{IsSearchPlace, next_value}
 use Rattle.qm_search.proofs.AnswerLaws.{some_answered}
-use Rattle.qm_search.proofs.Completions.{begins_here, completes_existential, completes_known}
+use Rattle.qm_search.proofs.Completions.{begins_here, completes_answer, completes_choice}
 use Rattle.qm_search.proofs.RightPicks.{right_pick}
-use Rattle.qm_search.proofs.SearchBoxes.{next_box, next_of, range_is, within_bounds}
+use Rattle.qm_search.proofs.SearchBoxes.{next_box}
 use Rattle.qm_search.proofs.walk.+search.Goals as goal
 use Rattle.qm_search.proofs.walk.+search.Goals.{best_choice-else-loop-choice-test, best_choice-then-loop-choice-test+in_ok-next+in_ok-choices+else-choice-choice-end, worst_answer-else-loop-value-test, worst_answer-then-loop-value-test+in_ok-refute+in-Kept+in_ok-answers-in-Kept+else-value-value-end}
 
@@ -33,13 +30,18 @@ visit-best-outcome-requires t c =
     let box = next_box P rest depth bx c.args.here.from_depth c.requires.some c.requires.bx c.args.value c.requires.within in
     let place : IsSearchPlace P (depth + 1) (set bx depth (single c.args.value)) c.args.completion.now = record { box = box; completes = c.requires.completes } in (
       omega (arith, c.requires.some, ap length c.behind.ensures.rest, length-drop 1 rest),
-      rw (c.behind.ensures.game, c.behind.ensures.depth, c.set.ensures, c.single.ensures, same) place,
+      rw (c.behind.ensures.game, c.behind.ensures.depth, c.put.ensures, c.single.ensures, same) place,
     )
+
+pub visit-put-requires-2-clause-bx : goal.visit-put-requires-2-clause-bx
+visit-put-requires-2-clause-bx t c =
+    let box = next_box c.args.here.game.now c.args.here.rest.now c.args.here.depth c.args.bx.now c.args.here.from_depth c.requires.some c.requires.bx c.args.value c.requires.within in
+    rw (c.best-outcome.ensures.same, c.put.ensures, c.single.ensures, to_z-of_z w64 c.args.value c.ranges.value) box.box
 
 pub visit-returns-clause-same : goal.visit-returns-clause-same
 visit-returns-clause-same t c =
-    put_back c.args.bx.now c.set.new.self c.best-outcome.new.bx c.set-2.new.self c.args.here.depth c.single.result c.range_in-before.result
-    c.set.ensures c.best-outcome.ensures.same c.set-2.ensures (rw c.as_slice.ensures at c.range_in-before.ensures)
+    put_back c.args.bx.now c.put.new.bx c.best-outcome.new.bx c.put-2.new.bx c.args.here.depth c.single.result c.range-before.result
+    c.put.ensures c.best-outcome.ensures.same c.put-2.ensures c.range-before.ensures
 
 pub answer_to-is_known-requires : goal.answer_to-is_known-requires
 answer_to-is_known-requires t c =
@@ -47,12 +49,8 @@ answer_to-is_known-requires t c =
     let rest = c.args.here.rest.now in
     let depth = c.args.here.depth in
     let bx = c.args.bx.now in
-    let next = next_of Universal rest c.requires.player in
-    let x = next.x in
-    let later = next.later in
-    let from_depth : x ∷ later ≡ drop depth (whole_vars P) = sym next.is ∙ c.args.here.from_depth in
     let here = c.requires.place.box in
-    (begins_here P x later depth bx from_depth here next.player_is c.args.completion.now c.requires.place.completes).some
+    (begins_here P rest depth bx c.args.here.from_depth here c.requires.player c.args.completion.now c.requires.place.completes).some
 
 pub answer_to-later_values-later-requires : goal.answer_to-later_values-later-requires
 answer_to-later_values-later-requires t c =
@@ -60,12 +58,8 @@ answer_to-later_values-later-requires t c =
     let rest = c.args.here.rest.now in
     let depth = c.args.here.depth in
     let bx = c.args.bx.now in
-    let next = next_of Universal rest c.requires.player in
-    let x = next.x in
-    let later = next.later in
-    let from_depth : x ∷ later ≡ drop depth (whole_vars P) = sym next.is ∙ c.args.here.from_depth in
     let here = c.requires.place.box in
-    (begins_here P x later depth bx from_depth here next.player_is c.args.completion.now c.requires.place.completes).some
+    (begins_here P rest depth bx c.args.here.from_depth here c.requires.player c.args.completion.now c.requires.place.completes).some
 
 pub answer_to-visit-requires : goal.answer_to-visit-requires
 answer_to-visit-requires t c =
@@ -73,16 +67,12 @@ answer_to-visit-requires t c =
     let rest = c.args.here.rest.now in
     let depth = c.args.here.depth in
     let bx = c.args.bx.now in
-    let next = next_of Universal rest c.requires.player in
-    let x = next.x in
-    let later = next.later in
-    let from_depth : x ∷ later ≡ drop depth (whole_vars P) = sym next.is ∙ c.args.here.from_depth in
     let here = c.requires.place.box in
     let v = c.args.value in
     let some = some_next Universal rest c.requires.player in
     let same = to_z-of_z w64 v c.ranges.value in
     let known = (rw same at c.is_known.ensures).0 c.if-is_known.true in
-    let completes = completes_known P x later depth bx from_depth here next.player_is c.args.completion.now c.requires.place.completes v (within_bounds P x later depth bx from_depth here v c.requires.within) known in
+    let completes = completes_answer P rest depth bx c.args.here.from_depth here c.requires.player c.args.completion.now c.requires.place.completes v c.requires.within known in
     (omega (arith, some), rw (same, c.later_values-later.ensures) (here, (some, (c.requires.within, completes))))
 
 pub answer_to-returns-then-is_known-clause-answer : goal.answer_to-returns-then-is_known-clause-answer
@@ -91,19 +81,15 @@ answer_to-returns-then-is_known-clause-answer t c =
     let rest = c.args.here.rest.now in
     let depth = c.args.here.depth in
     let bx = c.args.bx.now in
-    let next = next_of Universal rest c.requires.player in
-    let x = next.x in
-    let later = next.later in
-    let from_depth : x ∷ later ≡ drop depth (whole_vars P) = sym next.is ∙ c.args.here.from_depth in
     let here = c.requires.place.box in
     let v = c.args.value in
     let same = to_z-of_z w64 v c.ranges.value in
     let known = (rw same at c.is_known.ensures).0 c.if-is_known.true in
-    let completes = completes_known P x later depth bx from_depth here next.player_is c.args.completion.now c.requires.place.completes v (within_bounds P x later depth bx from_depth here v c.requires.within) known in
-    let right : IsRightPick P later depth bx v c.in_ok-list_of.field-0 =
-    rw (c.in_ok-list_of.ensures, c.later_values-later.ensures) (right_pick P x later depth bx from_depth here next.player_is v c.requires.within (drop 1 c.args.completion.now) completes) in
-    let outcome = rw (same, next.is) at c.in_ok-outcome.ensures.outcome in
-    rw next.is ((rw same at c.legal_answer.ensures) P x later depth bx (next_value c.args.completion.now) next.player_is right outcome)
+    let completes = completes_answer P rest depth bx c.args.here.from_depth here c.requires.player c.args.completion.now c.requires.place.completes v c.requires.within known in
+    let right : IsRightPick P (drop 1 rest) depth bx v c.in_ok-list_of.field-0 =
+    rw (c.in_ok-list_of.ensures, c.later_values-later.ensures) (right_pick P rest depth bx c.args.here.from_depth here c.requires.player v c.requires.within (drop 1 c.args.completion.now) completes) in
+    let outcome = rw same at c.in_ok-outcome.ensures.outcome in
+    (rw same at c.legal_answer.ensures) P rest depth bx (next_value c.args.completion.now) c.requires.player right outcome
 
 pub answer_to-returns-in_ok-outcome-in-Completion-clause-answer : goal.answer_to-returns-in_ok-outcome-in-Completion-clause-answer
 answer_to-returns-in_ok-outcome-in-Completion-clause-answer t c =
@@ -111,17 +97,13 @@ answer_to-returns-in_ok-outcome-in-Completion-clause-answer t c =
     let rest = c.args.here.rest.now in
     let depth = c.args.here.depth in
     let bx = c.args.bx.now in
-    let next = next_of Universal rest c.requires.player in
-    let x = next.x in
-    let later = next.later in
-    let from_depth : x ∷ later ≡ drop depth (whole_vars P) = sym next.is ∙ c.args.here.from_depth in
     let here = c.requires.place.box in
     let v = c.args.value in
     let same = to_z-of_z w64 v c.ranges.value in
     let completes = subst (IsRightLegality P (depth + 1) (set bx depth (single v))) c.in-Completion.is (rw same at c.in_ok-tree.ensures.legality) in
-    let right = right_pick P x later depth bx from_depth here next.player_is v c.requires.within c.in-Completion.values completes in
-    let outcome = rw (same, next.is, c.legality.ensures.same) at c.in_ok-outcome-in-Completion.ensures.outcome in
-    rw next.is ((rw same at c.legal_answer-in-Completion.ensures) P x later depth bx (next_value c.args.completion.now) next.player_is right outcome)
+    let right = right_pick P rest depth bx c.args.here.from_depth here c.requires.player v c.requires.within c.in-Completion.values completes in
+    let outcome = rw (same, c.legality.ensures.same) at c.in_ok-outcome-in-Completion.ensures.outcome in
+    (rw same at c.legal_answer-in-Completion.ensures) P rest depth bx (next_value c.args.completion.now) c.requires.player right outcome
 
 pub best_choice-loop-choice-init : goal.best_choice-loop-choice-init
 best_choice-loop-choice-init t c =
@@ -129,9 +111,9 @@ best_choice-loop-choice-init t c =
     let rest = c.args.here.rest.now in
     let depth = c.args.here.depth in
     let bx = c.args.bx.now in
-    let is = rw c.as_slice.ensures at c.range_in-covered.ensures in
-    let low : SFits w64 c.range_in-covered.result.low = search rules in
-    rw (to_z-of_z w64 c.range_in-covered.result.low low, is)
+    let is = c.range-covered.ensures in
+    let low : SFits w64 c.range-covered.result.low = search rules in
+    rw (to_z-of_z w64 c.range-covered.result.low low, is)
     (record {
       from = omega (arith, ints);
       to = λ some. absurd (omega (arith, ints, some));
@@ -145,18 +127,14 @@ best_choice-visit-requires t c =
     let rest = c.args.here.rest.now in
     let depth = c.args.here.depth in
     let bx = c.args.bx.now in
-    let next = next_of Exists rest c.requires.player in
-    let x = next.x in
-    let later = next.later in
-    let from_depth : x ∷ later ≡ drop depth (whole_vars P) = sym next.is ∙ c.args.here.from_depth in
     let here = c.requires.place.box in
     let v = to_z w64 c.loop-choice.choice-bits in
     let before = c.loop-choice.invariant in
-    let is = rw c.as_slice.ensures at c.range_in-covered.ensures in
-    let high : c.range_in-covered.result.high ≡ (range_at bx depth).high = ap (λ (r : Range). r.high) is in
+    let is = c.range-covered.ensures in
+    let high : c.range-covered.result.high ≡ (range_at bx depth).high = ap (λ (r : Range). r.high) is in
     let some = some_next Exists rest c.requires.player in
     let most : v ≤ℤ (range_at bx depth).high = omega (arith, ints, high) in
-    let completes = completes_existential P x later depth bx from_depth here v c.args.completion.now next.player_is c.requires.place.completes in
+    let completes = completes_choice P rest depth bx c.args.here.from_depth here c.requires.player c.args.completion.now c.requires.place.completes v in
     (omega (arith, some), rw before.same (here, (some, ((before.from, most), completes))))
 
 pub best_choice-loop-choice-preserved : goal.best_choice-loop-choice-preserved
@@ -167,10 +145,10 @@ best_choice-loop-choice-preserved t c =
     let bx = c.args.bx.now in
     let v = to_z w64 c.loop-choice.choice-bits in
     let before = c.loop-choice.invariant in
-    let is = rw c.as_slice.ensures at c.range_in-covered.ensures in
-    let high : c.range_in-covered.result.high ≡ (range_at bx depth).high = ap (λ (r : Range). r.high) is in
-    let fitting : SFits w64 c.range_in-covered.result.high = search rules in
-    let less : v <ℤ c.range_in-covered.result.high = omega (arith, ints) in
+    let is = c.range-covered.ensures in
+    let high : c.range-covered.result.high ≡ (range_at bx depth).high = ap (λ (r : Range). r.high) is in
+    let fitting : SFits w64 c.range-covered.result.high = search rules in
+    let less : v <ℤ c.range-covered.result.high = omega (arith, ints) in
     let fits : SFits w64 (v +ℤ pos 1) = omega (arith, ints) in
     let outcome = rw before.same at c.in_ok-next.ensures.outcome in
     simp (to_z-of_z w64 (v +ℤ pos 1) fits)
@@ -187,27 +165,23 @@ best_choice-returns-clause-outcome t c =
     let rest = c.args.here.rest.now in
     let depth = c.args.here.depth in
     let bx = c.args.bx.now in
-    let next = next_of Exists rest c.requires.player in
-    let x = next.x in
-    let later = next.later in
-    let from_depth : x ∷ later ≡ drop depth (whole_vars P) = sym next.is ∙ c.args.here.from_depth in
     let here = c.requires.place.box in
     let v = to_z w64 c.loop-choice.choice-bits in
     let before = c.loop-choice.invariant in
-    let is = rw c.as_slice.ensures at c.range_in-covered.ensures in
-    let high : c.range_in-covered.result.high ≡ (range_at bx depth).high = ap (λ (r : Range). r.high) is in
-    let fitting : SFits w64 c.range_in-covered.result.high = search rules in
+    let is = c.range-covered.ensures in
+    let high : c.range-covered.result.high ≡ (range_at bx depth).high = ap (λ (r : Range). r.high) is in
+    let fitting : SFits w64 c.range-covered.result.high = search rules in
     elim c.loop-choice-test.branch [
       | best_choice-else-loop-choice-test w ↦
           let above : (range_at bx depth).high <ℤ v = omega (arith, ints, high) in
           let are = subst (AreChoices P (drop 1 rest) depth bx (range_at bx depth).low v) (sym w.choices-is) before.choices in
-          rw next.is (c.outcome.ensures P x later depth bx v next.player_is (rw next.is at are) (record { above = above; near = before.to }))
+          c.outcome.ensures P rest depth bx v c.requires.player are (record { above = above; near = before.to })
       | best_choice-then-loop-choice-test+in_ok-next+in_ok-choices+else-choice-choice-end w ↦
           let last : v ≡ (range_at bx depth).high = omega (arith, ints, high) in
           let outcome = rw before.same at w.in_ok-next.ensures.outcome in
           let all = w.in_ok-choices.ensures P (drop 1 rest) depth bx (range_at bx depth).low here.sound.scale_positive before.from before.choices outcome in
           let are = subst (AreChoices P (drop 1 rest) depth bx (range_at bx depth).low (v +ℤ pos 1)) (sym w.choices-is) all in
-          rw next.is (c.outcome.ensures P x later depth bx (v +ℤ pos 1) next.player_is (rw next.is at are) (record { above = omega (arith, ints, last); near = λ some. omega (arith, ints, last) }))
+          c.outcome.ensures P rest depth bx (v +ℤ pos 1) c.requires.player are (record { above = omega (arith, ints, last); near = λ some. omega (arith, ints, last) })
     ]
 
 pub worst_answer-loop-value-init : goal.worst_answer-loop-value-init
@@ -216,21 +190,16 @@ worst_answer-loop-value-init t c =
     let rest = c.args.here.rest.now in
     let depth = c.args.here.depth in
     let bx = c.args.bx.now in
-    let next = next_of Universal rest c.requires.player in
-    let x = next.x in
-    let later = next.later in
-    let from_depth : x ∷ later ≡ drop depth (whole_vars P) = sym next.is ∙ c.args.here.from_depth in
     let here = c.requires.place.box in
-    let begins = begins_here P x later depth bx from_depth here next.player_is c.args.completion.now c.requires.place.completes in
-    let first : IsBetween (range_at bx depth).low (range_at bx depth).high (next_value c.args.completion.now) = rw (range_is P x later depth bx from_depth here) begins.within in
-    let is = rw c.as_slice.ensures at c.range_in-covered.ensures in
-    let low : SFits w64 c.range_in-covered.result.low = search rules in
-    rw (to_z-of_z w64 c.range_in-covered.result.low low, is)
+    let begins = begins_here P rest depth bx c.args.here.from_depth here c.requires.player c.args.completion.now c.requires.place.completes in
+    let is = c.range-covered.ensures in
+    let low : SFits w64 c.range-covered.result.low = search rules in
+    rw (to_z-of_z w64 c.range-covered.result.low low, is)
     (record {
       from = omega (arith, ints);
       to = λ some. absurd (omega (arith, ints, some));
       same = refl;
-      answers = c.new-answers.ensures P rest depth bx (next_value c.args.completion.now) (range_at bx depth).low first.0;
+      answers = c.new-answers.ensures P rest depth bx (next_value c.args.completion.now) (range_at bx depth).low begins.within.0;
     })
 
 pub worst_answer-loop-value-preserved : goal.worst_answer-loop-value-preserved
@@ -242,10 +211,10 @@ worst_answer-loop-value-preserved t c =
     let first = next_value c.args.completion.now in
     let v = to_z w64 c.loop-value.value-bits in
     let before = c.loop-value.invariant in
-    let is = rw c.as_slice.ensures at c.range_in-covered.ensures in
-    let high : c.range_in-covered.result.high ≡ (range_at bx depth).high = ap (λ (r : Range). r.high) is in
-    let fitting : SFits w64 c.range_in-covered.result.high = search rules in
-    let less : v <ℤ c.range_in-covered.result.high = omega (arith, ints) in
+    let is = c.range-covered.ensures in
+    let high : c.range-covered.result.high ≡ (range_at bx depth).high = ap (λ (r : Range). r.high) is in
+    let fitting : SFits w64 c.range-covered.result.high = search rules in
+    let less : v <ℤ c.range-covered.result.high = omega (arith, ints) in
     let fits : SFits w64 (v +ℤ pos 1) = omega (arith, ints) in
     let answer = rw before.same at c.in_ok-refute.ensures.answer in
     let reply = subst (IsRightAnswer P rest depth bx first v) c.in-Kept.is answer in
@@ -263,26 +232,21 @@ worst_answer-outcome-requires t c =
     let rest = c.args.here.rest.now in
     let depth = c.args.here.depth in
     let bx = c.args.bx.now in
-    let next = next_of Universal rest c.requires.player in
-    let x = next.x in
-    let later = next.later in
-    let from_depth : x ∷ later ≡ drop depth (whole_vars P) = sym next.is ∙ c.args.here.from_depth in
     let here = c.requires.place.box in
     let first = next_value c.args.completion.now in
-    let begins = begins_here P x later depth bx from_depth here next.player_is c.args.completion.now c.requires.place.completes in
-    let inside : IsBetween (range_at bx depth).low (range_at bx depth).high first = rw (range_is P x later depth bx from_depth here) begins.within in
+    let begins = begins_here P rest depth bx c.args.here.from_depth here c.requires.player c.args.completion.now c.requires.place.completes in
     let v = to_z w64 c.loop-value.value-bits in
     let before = c.loop-value.invariant in
-    let is = rw c.as_slice.ensures at c.range_in-covered.ensures in
-    let high : c.range_in-covered.result.high ≡ (range_at bx depth).high = ap (λ (r : Range). r.high) is in
-    let fitting : SFits w64 c.range_in-covered.result.high = search rules in
+    let is = c.range-covered.ensures in
+    let high : c.range-covered.result.high ≡ (range_at bx depth).high = ap (λ (r : Range). r.high) is in
+    let fitting : SFits w64 c.range-covered.result.high = search rules in
     elim c.loop-value-test.branch [
       | worst_answer-else-loop-value-test w ↦
-          let above : first <ℤ v = omega (arith, ints, inside.1, high) in
+          let above : first <ℤ v = omega (arith, ints, begins.within.1, high) in
           let are = subst (AreAnswers P rest depth bx first (range_at bx depth).low v) (sym w.answers-is) before.answers in
           some_answered P rest depth bx first (range_at bx depth).low v c.loop-value-test.answers are above
       | worst_answer-then-loop-value-test+in_ok-refute+in-Kept+in_ok-answers-in-Kept+else-value-value-end w ↦
-          let above : first <ℤ (v +ℤ pos 1) = omega (arith, ints, inside.1, high) in
+          let above : first <ℤ (v +ℤ pos 1) = omega (arith, ints, begins.within.1, high) in
           let answer = rw before.same at w.in_ok-refute.ensures.answer in
           let reply = subst (IsRightAnswer P rest depth bx first v) w.in-Kept.is answer in
           let all = w.in_ok-answers-in-Kept.ensures P rest depth bx first (range_at bx depth).low before.answers reply in
@@ -296,27 +260,23 @@ worst_answer-returns-clause-outcome t c =
     let rest = c.args.here.rest.now in
     let depth = c.args.here.depth in
     let bx = c.args.bx.now in
-    let next = next_of Universal rest c.requires.player in
-    let x = next.x in
-    let later = next.later in
-    let from_depth : x ∷ later ≡ drop depth (whole_vars P) = sym next.is ∙ c.args.here.from_depth in
     let here = c.requires.place.box in
     let first = next_value c.args.completion.now in
     let v = to_z w64 c.loop-value.value-bits in
     let before = c.loop-value.invariant in
-    let is = rw c.as_slice.ensures at c.range_in-covered.ensures in
-    let high : c.range_in-covered.result.high ≡ (range_at bx depth).high = ap (λ (r : Range). r.high) is in
-    let fitting : SFits w64 c.range_in-covered.result.high = search rules in
+    let is = c.range-covered.ensures in
+    let high : c.range-covered.result.high ≡ (range_at bx depth).high = ap (λ (r : Range). r.high) is in
+    let fitting : SFits w64 c.range-covered.result.high = search rules in
     elim c.loop-value-test.branch [
       | worst_answer-else-loop-value-test w ↦
           let above : (range_at bx depth).high <ℤ v = omega (arith, ints, high) in
           let are = subst (AreAnswers P rest depth bx first (range_at bx depth).low v) (sym w.answers-is) before.answers in
-          rw next.is (c.outcome.ensures P x later depth bx first v next.player_is (rw next.is at are) (record { above = above; near = before.to }))
+          c.outcome.ensures P rest depth bx first v c.requires.player are (record { above = above; near = before.to })
       | worst_answer-then-loop-value-test+in_ok-refute+in-Kept+in_ok-answers-in-Kept+else-value-value-end w ↦
           let last : v ≡ (range_at bx depth).high = omega (arith, ints, high) in
           let answer = rw before.same at w.in_ok-refute.ensures.answer in
           let reply = subst (IsRightAnswer P rest depth bx first v) w.in-Kept.is answer in
           let all = w.in_ok-answers-in-Kept.ensures P rest depth bx first (range_at bx depth).low before.answers reply in
           let are = subst (AreAnswers P rest depth bx first (range_at bx depth).low (v +ℤ pos 1)) (sym w.answers-is) all in
-          rw next.is (c.outcome.ensures P x later depth bx first (v +ℤ pos 1) next.player_is (rw next.is at are) (record { above = omega (arith, ints, last); near = λ some. omega (arith, ints, last) }))
+          c.outcome.ensures P rest depth bx first (v +ℤ pos 1) c.requires.player are (record { above = omega (arith, ints, last); near = λ some. omega (arith, ints, last) })
     ]
