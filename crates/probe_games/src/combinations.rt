@@ -78,7 +78,7 @@ fn goal_line(
     match read_goal(goal) {
         Some(goal) => match closes(game, cuts, bx, &goal, combo) {
             Ok(true) => String::from_str(alloc, "closes"),
-            Ok(false) => String::from_str(alloc, "leaves it open"),
+            Ok(false) => String::from_str(alloc, "stays open"),
             Err(leaves) => leaves_line(alloc, leaves),
         },
         None => String::from_str(alloc, "?"),
