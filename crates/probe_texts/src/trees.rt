@@ -161,7 +161,7 @@ fn add_named(
 
 fn name_of(alloc: Global, names: &Names, number: usize) -> Result<String, AllocError> {
     if number < names.len() {
-        String::from_utf8_lossy(alloc, names.name(number).as_slice())
+        String::from_utf8_lossy(alloc, names.name(number))
     } else {
         String::from_str(alloc, "?")
     }

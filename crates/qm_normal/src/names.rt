@@ -14,6 +14,6 @@ pub(crate) fn name_of(alloc: Global, ast: &Ast, name: u32) -> Result<List<u8>, M
     if at >= ast.names.len() {
         return Ok(copy);
     }
-    copy.append(ast.names.name(at).as_slice())?;
+    copy.append(ast.names.name(at))?;
     Ok(copy)
 }

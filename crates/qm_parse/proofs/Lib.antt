@@ -1,4 +1,5 @@
 pub mod Standing
+pub mod NameKeys
 pub mod SymbolPlaces
 pub mod SymbolNames
 pub mod SymbolSteps

@@ -17,7 +17,7 @@ use Rattle.qm_parse.specs.declared.word.Symbol.{Symbol}
 use Rattle.qm_parse.specs.declared.word.Word.{Word}
 use Rattle.qm_parse.specs.declared.word.Word.TheVariants.{Name, Number}
 use Rattle.qm_parse.specs.NameTables.{AreDistinct, stands_in}
-use Rattle.qm_parse.specs.Symbols.{AreSymbols, IsSymbolOf, IsValueOf, IsWordOf, bytes_of, is_before_colon, names_behind, names_of, with_name, with_token}
+use Rattle.qm_parse.specs.Symbols.{AreSymbols, IsSymbolOf, IsValueOf, IsWordOf, bytes_of, is_before_colon, names_behind, names_of, with_token}
 use Rattle.qm_parse.proofs.OnceOnly.{AllPairs-nil}
 
 -- a word spells one decimal
@@ -80,7 +80,7 @@ symbols-once law text names line (token ∷ tokens) (symbol ∷ symbols) (first 
     ap (λ x. x ∷ symbols) same ∙ ap (λ xs. first ∷ xs) rest
 
 -- a name that doesn't stand among names is another than each
-distinct-more : (names : List (List ℕ)) (name : List ℕ) (b : Bool) → stands_in names name ≡ b → AreDistinct names → AreDistinct (cond b names (names ++ name ∷ []))
+pub distinct-more : (names : List (List ℕ)) (name : List ℕ) (b : Bool) → stands_in names name ≡ b → AreDistinct names → AreDistinct (cond b names (names ++ name ∷ []))
 distinct-more names name true stands distinct = distinct
 distinct-more names name false stands distinct =
     all_pairs_push (λ one other. one ≢ other) names name distinct

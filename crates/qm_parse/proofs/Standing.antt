@@ -1,5 +1,5 @@
 -- Names that stand among names: by the test and by the fact, and by their number.
-use Rattle.std.proofs.Common.{◌≡◌, ℕ, List, refl, sym, ◌∙◌, Decides}
+use Rattle.std.proofs.Common.{◌≡◌, ℕ, List, refl, sym, Decides}
 use Rattle.std.specs.Prelude.{Contains}
 use Rattle.std.specs.List.{list_any, IsDistinct}
 use Rattle.std.specs.Str.{bytes_eq}

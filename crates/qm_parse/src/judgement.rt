@@ -29,7 +29,7 @@ fn offence(alloc: Global, ast: &Ast, fault: NameFault) -> ParseFault
     requires known { fault.name < length ast.now.names }
     ensures { IsJudged ast.now (Err result) }
 {
-    let Ok(name) = copy_of(alloc, ast.names.name(fault.name as usize).as_slice()) else {
+    let Ok(name) = copy_of(alloc, ast.names.name(fault.name as usize)) else {
         return ParseFault::Memory;
     };
     match fault.offence {

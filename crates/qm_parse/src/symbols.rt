@@ -5,7 +5,7 @@ ghost use Rattle.qm_lex.specs.Texts.{AreInOrder};
 ghost use Rattle.qm_parse.specs.Symbols.{AreNumbers, AreSymbols, IsNumberOf, IsSymbolOf, IsWordOf, bytes_of, infinite_word, is_before_colon, is_colon, names_of, with_token};
 
 use crate::ast::Relation;
-use crate::names::{Names, copy_of};
+use crate::names::Names;
 use crate::numbers::value_of;
 use crate::word::{Symbol, Word};
 use qm_io::{List, Memory};
@@ -86,10 +86,7 @@ fn word(
     ensures few { IfOk result (λ word. length names.new ≤ length names.old + 1) }
 {
     match kind {
-        Kind::Name => {
-            let name = copy_of(alloc, bytes)?;
-            Ok(Word::Name(names.number(name)?, labels))
-        }
+        Kind::Name => Ok(Word::Name(names.number(alloc, bytes)?, labels)),
         Kind::Number => Ok(Word::Number(value_of(bytes))),
         Kind::Plus => Ok(Word::Sign(false)),
         Kind::Minus => Ok(Word::Sign(true)),
