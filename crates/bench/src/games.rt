@@ -1,11 +1,10 @@
-ghost use Rattle.std.specs.Prelude.{◌≡◌, ◌≢◌, ◌+◌, ◌*◌, ◌<◌, ◌≤◌, [], All, IfOk, IsTrue, length, pos, true, unsigned_abs};
+ghost use Rattle.std.specs.Prelude.{◌≡◌, ◌≢◌, ◌+◌, ◌*◌, ◌<◌, ◌≤◌, All, IfOk, IsTrue, length, pos, unsigned_abs};
 ghost use Rattle.qm_model.specs.Plays.{is_universal};
 ghost use Rattle.bench.specs.Games.{AreUniversal, IsPlain, IsPlainRow, IsPlainUncertainty};
 
 use qm_game::{Bx, Game, Player, Problem, Row, Sense, Term, Terms, Var, whole_box};
 use qm_io::{List, Memory};
 use qm_prop::{Propagated, propagate};
-use smallvec::SmallVec;
 use std::alloc::Global;
 
 // A binary that the universal player sets, or a variable from 0 to 1000 that the existential player sets.
@@ -14,21 +13,9 @@ fn variable(alloc: Global, universal: bool) -> Var
     ensures universal { IsTrue universal → IsTrue (is_universal result) }
 {
     if universal {
-        var_of(alloc, Player::All, 1)
+        Var::binary(List::new(alloc), Player::All)
     } else {
-        var_of(alloc, Player::Exists, 1000)
-    }
-}
-
-fn var_of(alloc: Global, player: Player, high: i64) -> Var
-    ensures { result ≡ record { name = []; player = player; whole = true; low = pos 0; high = high } }
-{
-    Var {
-        name: List::new(alloc),
-        player,
-        whole: true,
-        low: 0,
-        high,
+        Var::whole_to(List::new(alloc), Player::Exists, 1000)
     }
 }
 
@@ -75,16 +62,19 @@ fn terms(alloc: Global, first: u32, step: u32, seed: u64) -> Result<Terms, Memor
     requires step { step ≤ 100 }
     ensures { IfOk result (λ terms. IsPlainRow (record { terms = terms; right = pos 0 })) }
 {
-    let mut terms = SmallVec::new(alloc);
-    terms.push(term(first, step, 0, seed))?;
-    terms.push(term(first, step, 1, seed))?;
-    terms.push(term(first, step, 2, seed))?;
-    terms.push(term(first, step, 3, seed))?;
-    terms.push(term(first, step, 4, seed))?;
-    terms.push(term(first, step, 5, seed))?;
-    terms.push(term(first, step, 6, seed))?;
-    terms.push(term(first, step, 7, seed))?;
-    Ok(Terms::new(terms))
+    Terms::of(
+        alloc,
+        &[
+            term(first, step, 0, seed),
+            term(first, step, 1, seed),
+            term(first, step, 2, seed),
+            term(first, step, 3, seed),
+            term(first, step, 4, seed),
+            term(first, step, 5, seed),
+            term(first, step, 6, seed),
+            term(first, step, 7, seed),
+        ],
+    )
 }
 
 // A row of eight terms.
@@ -127,7 +117,7 @@ pub fn game(alloc: Global, universals: u32, urows: List<Row>) -> Result<Game, Me
         wholes: 1000,
         rows: rows(alloc)?,
         urows,
-        terms: Terms::new(SmallVec::new(alloc)),
+        terms: Terms::none(alloc),
         constant: 0,
         scale: 1,
     }))

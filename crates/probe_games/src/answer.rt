@@ -1,10 +1,80 @@
-use crate::runs::run_of;
+ghost use Rattle.std.specs.Prelude.{◌<◌, ◌^◌, All, length};
+ghost use Rattle.qm_model.specs.Boxes.{IsBox};
+ghost use Rattle.qm_model.specs.Sound.{IsRowOver};
+
+use crate::boxes::box_of;
+use crate::combinations::combination_line;
+use crate::cuts::cuts_of;
+use crate::empties::empty_line;
+use crate::ends::run_line;
+use crate::legality::legal_line;
+use crate::propagations::propagation_line;
+use crate::question::Question;
+use crate::rows::{point_line, rows_line};
+use crate::solved::solve_line;
+use crate::tableaus::tableau_line;
+use probe_words::{Stated, game_of};
+use qm_game::{Bx, Game, Row};
 use std::alloc::{AllocError, Global};
 
 /// The answer to a line, and `?` where the line asks nothing.
 pub fn answer(alloc: Global, line: &str) -> Result<String, AllocError> {
-    if let Some(words) = line.strip_prefix("run ") {
-        return run_of(alloc, words);
+    let (word, words) = line.split_once(' ').unwrap_or((line, ""));
+    match Question::read(word) {
+        Some(question) => answer_of_words(alloc, question, words),
+        None => String::from_str(alloc, "?"),
     }
-    String::from_str(alloc, "?")
+}
+
+// The first fault of the text, where it states no game.
+fn answer_of_words(alloc: Global, question: Question, words: &str) -> Result<String, AllocError> {
+    let (head, rest) = question.parts(words);
+    let (head, cuts) = head.split_once(" with ").unwrap_or((head, ""));
+    let (hex, ranges) = head.split_once(' ').unwrap_or((head, ""));
+    match game_of(alloc, hex)? {
+        Stated::Game(game) => answer_of_game(alloc, question, &game, ranges, cuts, rest),
+        Stated::Nothing(line) => Ok(line),
+    }
+}
+
+fn answer_of_game(
+    alloc: Global,
+    question: Question,
+    game: &Game,
+    ranges: &str,
+    cuts: &str,
+    rest: &str,
+) -> Result<String, AllocError> {
+    match box_of(alloc, game, ranges) {
+        Ok(bx) => match cuts_of(alloc, game, cuts) {
+            Ok(cuts) => answer_over(alloc, question, game, cuts.as_slice(), bx, rest),
+            Err(why) => String::from_str(alloc, why.line()),
+        },
+        Err(why) => String::from_str(alloc, why.line()),
+    }
+}
+
+fn answer_over(
+    alloc: Global,
+    question: Question,
+    game: &Game,
+    cuts: &[Row],
+    bx: Bx,
+    rest: &str,
+) -> Result<String, AllocError>
+    requires cuts { All (IsRowOver game.now.vars) cuts.now }
+    requires few_cuts { length cuts.now < 2 ^ 29 }
+    requires bx { IsBox game.now.vars bx }
+{
+    match question {
+        Question::Run => run_line(alloc, game, cuts, &bx),
+        Question::Tableau => tableau_line(alloc, game, cuts, &bx, rest),
+        Question::Rows => rows_line(alloc, game, &bx),
+        Question::Point => point_line(alloc, game, rest),
+        Question::Propagate => propagation_line(alloc, game, bx),
+        Question::Combination => combination_line(alloc, game, cuts, &bx, rest),
+        Question::Empty => empty_line(alloc, game, bx, rest),
+        Question::Legal => legal_line(alloc, game, bx, rest),
+        Question::Solve => solve_line(alloc, game),
+    }
 }

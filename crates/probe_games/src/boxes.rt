@@ -1,90 +1,46 @@
-ghost use Rattle.std.specs.Prelude.{Any, IfOk, IsTrue, List, max, unsigned_abs, ◌≤◌};
+ghost use Rattle.std.specs.Prelude.{IfOk, List};
 ghost use Rattle.qm_model.specs.declared.variable.Var.{Var};
-ghost use Rattle.qm_model.specs.Boxes.{IsBox, IsEmptyRange, IsInside};
+ghost use Rattle.qm_model.specs.Boxes.{IsBox};
 
-use qm_game::{Bx, Game, Range, has_empty, narrow, whole_box};
-use qm_io::Memory;
+use crate::no_answer::NoAnswer;
+use qm_game::{Bx, Game, Range, try_narrow, whole_box};
 use std::alloc::Global;
 
-/// Why words name no box that a run takes.
-#[derive(Clone, Copy, Debug, PartialEq, Eq)]
-pub enum NoBox {
-    /// A word is no range.
-    Spelling,
-    /// There is not one range for each variable.
-    Count,
-    /// A range isn't inside the variable's bounds.
-    Outside,
-    /// A range has no value.
-    Empty,
-    Memory,
-}
-
-impl From<Memory> for NoBox {
-    fn from(_: Memory) -> Self {
-        NoBox::Memory
-    }
-}
-
 /// The game's whole box where there are no words, else the box of the ranges `LOW..HIGH`, one for each variable.
-pub fn box_of(alloc: Global, game: &Game, words: &str) -> Result<Bx, NoBox>
-    ensures is_box { IfOk result (IsBox game.now.vars) }
-    ensures full { IfOk result (λ bx. Any IsEmptyRange bx → ⊥) }
+pub fn box_of(alloc: Global, game: &Game, words: &str) -> Result<Bx, NoAnswer>
+    ensures { IfOk result (IsBox game.now.vars) }
 {
-    let bx = if words.is_empty() {
-        whole_box(alloc, game)?
+    if words.is_empty() {
+        Ok(whole_box(alloc, game)?)
     } else {
-        box_of_ranges(alloc, game, words)?
-    };
-    if has_empty(&bx) {
-        return Err(NoBox::Empty);
+        box_of_ranges(alloc, game, words)
     }
-    Ok(bx)
 }
 
-fn box_of_ranges(alloc: Global, game: &Game, words: &str) -> Result<Bx, NoBox>
+fn box_of_ranges(alloc: Global, game: &Game, words: &str) -> Result<Bx, NoAnswer>
     ensures { IfOk result (IsBox game.now.vars) }
 {
     let mut bx = whole_box(alloc, game)?;
     if words.split(' ').count() != bx.len() {
-        return Err(NoBox::Count);
+        return Err(NoAnswer::Count);
     }
     for (var, word) in words.split(' ').enumerate() {
         match (read_range(word), u32::try_from(var)) {
             (Some(to), Ok(var)) => narrow_one(&mut bx, var, to)?,
-            _ => return Err(NoBox::Spelling),
+            _ => return Err(NoAnswer::Spelling),
         }
     }
     Ok(bx)
 }
 
-fn narrow_one(bx: &mut Bx, var: u32, to: Range) -> Result<(), NoBox>
+fn narrow_one(bx: &mut Bx, var: u32, to: Range) -> Result<(), NoAnswer>
     ensures { (vars : List Var) → IsBox vars bx.old → IsBox vars bx.new }
 {
-    match bx.as_slice().get(var as usize) {
-        Some(range) if is_inside(to, *range) => {
-            narrow(bx, var, to);
-            Ok(())
-        }
-        _ => Err(NoBox::Outside),
+    if try_narrow(bx, var, to) {
+        Ok(())
+    } else {
+        Err(NoAnswer::Outside)
     }
-}
-
-fn is_inside(inner: Range, outer: Range) -> bool
-    ensures { IsTrue result → IsInside inner outer }
-{
-    outer.low <= inner.low
-        && inner.high <= outer.high
-        && is_near(inner.low, outer)
-        && is_near(inner.high, outer)
-}
-
-// Whether the end is no farther from 0 than the farther end of the range.
-fn is_near(end: i64, range: Range) -> bool
-    ensures { IsTrue result → unsigned_abs end ≤ max (unsigned_abs range.low) (unsigned_abs range.high) }
-{
-    end.unsigned_abs() <= range.low.unsigned_abs()
-        || end.unsigned_abs() <= range.high.unsigned_abs()
 }
 
 fn read_range(word: &str) -> Option<Range> {

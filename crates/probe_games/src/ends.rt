@@ -1,12 +1,27 @@
+ghost use Rattle.std.specs.Prelude.{◌<◌, ◌^◌, All, length};
+ghost use Rattle.qm_model.specs.Boxes.{IsBox};
+ghost use Rattle.qm_model.specs.Sound.{IsRowOver};
+
+use crate::words::{fraction_words, row_word};
 use probe_words::{fraction_text, leaves_text};
-use qm_frac::Frac;
-use qm_game::RowId;
-use qm_simplex::{LeavePlace, LpEnd, LpFault, RunLeaves};
+use qm_game::{Bx, Game, Row, has_empty};
+use qm_simplex::{LeavePlace, LpEnd, LpFault, RunLeaves, solve_lp};
 use qm_trees::Combo;
 use std::alloc::{AllocError, Global};
 
-/// How a run ends, in one line.
-pub fn end_line(alloc: Global, end: &Result<LpEnd, LpFault>) -> Result<String, AllocError> {
+/// How the run with these cuts over the box ends, in one line.
+pub fn run_line(alloc: Global, game: &Game, cuts: &[Row], bx: &Bx) -> Result<String, AllocError>
+    requires cuts { All (IsRowOver game.now.vars) cuts.now }
+    requires few_cuts { length cuts.now < 2 ^ 29 }
+    requires bx { IsBox game.now.vars bx.now }
+{
+    if has_empty(bx) {
+        return String::from_str(alloc, "box empty");
+    }
+    end_line(alloc, &solve_lp(alloc, game, cuts, bx))
+}
+
+fn end_line(alloc: Global, end: &Result<LpEnd, LpFault>) -> Result<String, AllocError> {
     match end {
         Ok(
             LpEnd::Best {
@@ -17,7 +32,7 @@ pub fn end_line(alloc: Global, end: &Result<LpEnd, LpFault>) -> Result<String, A
             },
         ) => {
             let value = fraction_text(alloc, *value)?;
-            let point = point_words(alloc, point.as_slice())?;
+            let point = fraction_words(alloc, point.as_slice())?;
             let combo = combo_words(alloc, combo)?;
             format!(in alloc; "best {value} point{point} close{combo} pivots {pivots}")
         }
@@ -37,15 +52,6 @@ fn leaves_line(alloc: Global, run: &RunLeaves) -> Result<String, AllocError> {
     format!(in alloc; "leaves pivots{pivots} at {at} {operation}")
 }
 
-fn point_words(alloc: Global, point: &[Frac]) -> Result<String, AllocError> {
-    let mut out = String::new(alloc);
-    for value in point {
-        out.push(' ')?;
-        out.push_str(fraction_text(alloc, *value)?.as_str())?;
-    }
-    Ok(out)
-}
-
 // As certificates spell it.
 fn combo_words(alloc: Global, combo: &Combo) -> Result<String, AllocError> {
     let mut out = String::from_str(alloc, if combo.objective() { " o" } else { "" })?;
@@ -56,20 +62,6 @@ fn combo_words(alloc: Global, combo: &Combo) -> Result<String, AllocError> {
         out.push_str(word.as_str())?;
     }
     Ok(out)
-}
-
-fn row_word(alloc: Global, row: RowId) -> Result<String, AllocError> {
-    match row {
-        RowId::Row(number) => counted(alloc, "r", number),
-        RowId::Uncertain(number) => counted(alloc, "u", number),
-        RowId::Cut(number) => counted(alloc, "c", number),
-    }
-}
-
-// A letter, and a number that is counted from 1.
-fn counted(alloc: Global, letter: &str, number: u32) -> Result<String, AllocError> {
-    let number = u64::from(number) + 1;
-    format!(in alloc; "{letter}{number}")
 }
 
 fn pivot_words(alloc: Global, pivots: &[(u32, u32)]) -> Result<String, AllocError> {

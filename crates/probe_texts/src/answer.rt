@@ -1,87 +1,40 @@
-use crate::faults::fault_of;
+use crate::forms::normal_of;
+use crate::fractions::fraction_of;
+use crate::lines::{line_end_of, place_of};
 use crate::numbers::{Reading, number_of};
-use crate::question::{Question, over, read_question};
+use crate::reports::{report_in_pieces, report_of};
+use crate::streams::{calls_of, reading_of, writing_of};
 use crate::tokens::tokens_of;
-use probe_words::{fraction_text, leaves_text};
-use qm_frac::{Frac, Leaves};
+use crate::trees::tree_of;
+use probe_words::{Stated, game_of};
 use std::alloc::{AllocError, Global};
-use std::cmp::Ordering;
 
 /// The answer to a line, and `?` where the line asks nothing.
 pub fn answer(alloc: Global, line: &str) -> Result<String, AllocError> {
-    if let Some(hex) = line.strip_prefix("tokens ") {
-        return tokens_of(alloc, hex);
-    }
-    if let Some(hex) = line.strip_prefix("fault ") {
-        return fault_of(alloc, hex);
-    }
-    if let Some(hex) = line.strip_prefix("decimal ") {
-        return number_of(alloc, Reading::Decimal, hex);
-    }
-    if let Some(hex) = line.strip_prefix("fraction ") {
-        return number_of(alloc, Reading::Fraction, hex);
-    }
-    if let Some(hex) = line.strip_prefix("whole ") {
-        return number_of(alloc, Reading::Whole, hex);
-    }
-    match read_question(line) {
-        Some(question) => answer_to(alloc, question),
-        None => nothing(alloc),
-    }
-}
-
-fn answer_to(alloc: Global, question: Question) -> Result<String, AllocError> {
-    match question {
-        Question::Of(num, den) => fraction_or_none(alloc, num, den),
-        Question::Floor(a) => number(alloc, a.floor()),
-        Question::Ceil(a) => number(alloc, a.ceil()),
-        Question::Add(a, b) => value_or_leaves(alloc, a.add(b)),
-        Question::Sub(a, b) => value_or_leaves(alloc, a.sub(b)),
-        Question::Mul(a, b) => value_or_leaves(alloc, a.mul(b)),
-        Question::Div(a, b) => divided(alloc, a, b),
-        Question::Cmp(a, b) => number(alloc, sign(a.cmp(b))),
+    let (word, rest) = line.split_once(' ').unwrap_or((line, ""));
+    match word {
+        "tokens" => tokens_of(alloc, rest),
+        "fault" => fault_of(alloc, rest),
+        "tree" => tree_of(alloc, rest),
+        "normal" => normal_of(alloc, rest),
+        "report" => report_of(alloc, rest),
+        "pieces" => report_in_pieces(alloc, rest),
+        "read" => reading_of(alloc, rest),
+        "calls" => calls_of(alloc, rest),
+        "put" => writing_of(alloc, rest),
+        "line" => line_end_of(alloc, rest),
+        "place" => place_of(alloc, rest),
+        "decimal" => number_of(alloc, Reading::Decimal, rest),
+        "fraction" => number_of(alloc, Reading::Fraction, rest),
+        "whole" => number_of(alloc, Reading::Whole, rest),
+        _ => fraction_of(alloc, line),
     }
 }
 
-fn nothing(alloc: Global) -> Result<String, AllocError> {
-    String::from_str(alloc, "?")
-}
-
-fn number(alloc: Global, n: i128) -> Result<String, AllocError> {
-    format!(in alloc; "{n}")
-}
-
-fn fraction_or_none(alloc: Global, num: i128, den: i128) -> Result<String, AllocError> {
-    if den == 0 {
-        return nothing(alloc);
-    }
-    match over(num, den) {
-        Some(value) => fraction_text(alloc, value),
-        None => String::from_str(alloc, "none"),
-    }
-}
-
-fn divided(alloc: Global, a: Frac, b: Frac) -> Result<String, AllocError> {
-    if b.num() == 0 {
-        return nothing(alloc);
-    }
-    value_or_leaves(alloc, a.div(b))
-}
-
-fn value_or_leaves(alloc: Global, answer: Result<Frac, Leaves>) -> Result<String, AllocError> {
-    match answer {
-        Ok(value) => fraction_text(alloc, value),
-        Err(leaves) => {
-            let operation = leaves_text(alloc, leaves)?;
-            format!(in alloc; "leaves {operation}")
-        }
-    }
-}
-
-fn sign(order: Ordering) -> i128 {
-    match order {
-        Ordering::Less => -1,
-        Ordering::Equal => 0,
-        Ordering::Greater => 1,
+// `ok` where the text states a game, else the line that refuses it.
+fn fault_of(alloc: Global, written: &str) -> Result<String, AllocError> {
+    match game_of(alloc, written)? {
+        Stated::Game(_) => String::from_str(alloc, "ok"),
+        Stated::Nothing(line) => Ok(line),
     }
 }

@@ -1,14 +1,27 @@
-//! Answers each line of standard input: one operation of fractions, such as `add 1/2 1/3`; or the tokens of a text
-//! whose bytes are written in hexadecimal, such as `tokens 32783c3d33`, or its first fault or `ok`, as
-//! `fault 4d4158`; or the number that such a word spells, as `decimal 2e35`, and so for the words `fraction` and `whole`
-//! of certificates.
+//! Answers each line of standard input.
+//!
+//! Of fractions: `add`, `sub`, `mul`, `div`, `cmp`, as `add 1/2 1/3`; `floor`, `ceil`, `neg`, and `write` as certificates
+//! do it, as `floor -7/2`; `of` and `gcd` of two whole numbers.
+//! Of a text, whose bytes are written between quotes or in hexadecimal (`bytes_of` in `probe_words`): its `tokens`, its
+//! `tree`, its `normal` form, its first `fault` or `ok`, as `tokens "2x<=3"`; the end of a `line`, or the `place` of a byte,
+//! as `line 0 "ab\n"`; the number that it spells as `decimal`, as `fraction` or as `whole` number.
+//! Of the top call: its `report`, as `report solve f | "MAX x"`, and so in `pieces` of some bytes, where a read or a write
+//! may fail, as `pieces 7 3 0 solve f | "MAX x"`.
+//! Of sources and sinks in memory: what comes of a `read` in pieces, what its `calls` give, and what a sink takes that a
+//! text is `put` into, as `put 2 0 "hel" | "lo"`.
 #![tactic(auto)]
 
 mod answer;
-mod faults;
+mod forms;
+mod fractions;
+mod lines;
+mod memory;
 mod numbers;
 mod question;
+mod reports;
+mod streams;
 mod tokens;
+mod trees;
 
 use std::io::{self, BufRead, BufReader, BufWriter, Write};
 

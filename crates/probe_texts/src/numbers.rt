@@ -11,9 +11,9 @@ pub enum Reading {
     Whole,
 }
 
-/// The number of the word whose bytes are written in hexadecimal, or why it has none.
-pub fn number_of(alloc: Global, reading: Reading, hex: &str) -> Result<String, AllocError> {
-    match bytes_of(alloc, hex.as_bytes())? {
+/// The number of a word, or why it has none.
+pub fn number_of(alloc: Global, reading: Reading, written: &str) -> Result<String, AllocError> {
+    match bytes_of(alloc, written)? {
         Some(word) => read(alloc, reading, &word),
         None => String::from_str(alloc, "?"),
     }

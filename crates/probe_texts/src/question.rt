@@ -1,11 +1,14 @@
 use qm_frac::Frac;
 
-/// What a line asks.
+/// What a line asks of fractions.
 #[derive(Drop)]
 pub enum Question {
     Of(i128, i128),
+    Gcd(i128, i128),
     Floor(Frac),
     Ceil(Frac),
+    Neg(Frac),
+    Write(Frac),
     Add(Frac, Frac),
     Sub(Frac, Frac),
     Mul(Frac, Frac),
@@ -17,13 +20,23 @@ pub enum Question {
 pub fn read_question(line: &str) -> Option<Question> {
     let (word, rest) = line.split_once(' ')?;
     match word {
-        "of" => {
-            let (num, den) = rest.split_once(' ')?;
-            Some(Question::Of(whole(num)?, whole(den)?))
-        }
         "floor" => Some(Question::Floor(fraction(rest)?)),
         "ceil" => Some(Question::Ceil(fraction(rest)?)),
+        "neg" => Some(Question::Neg(fraction(rest)?)),
+        "write" => Some(Question::Write(fraction(rest)?)),
+        "of" | "gcd" => two_numbers(word, rest),
         _ => two_operands(word, rest),
+    }
+}
+
+fn two_numbers(word: &str, rest: &str) -> Option<Question> {
+    let (left, right) = rest.split_once(' ')?;
+    let a = whole(left)?;
+    let b = whole(right)?;
+    match word {
+        "of" => Some(Question::Of(a, b)),
+        "gcd" => Some(Question::Gcd(a, b)),
+        _ => None,
     }
 }
 

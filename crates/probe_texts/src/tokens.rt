@@ -1,11 +1,13 @@
-use probe_words::{MOST, bytes_of};
+use probe_words::bytes_of;
 use qm_lex::{LexFault, Token, tokens};
 use std::alloc::{AllocError, Global};
 
-/// The tokens of the text whose bytes are written in hexadecimal: the kind, the start and the end of each; or the
-/// place of the first byte that begins none.
-pub fn tokens_of(alloc: Global, hex: &str) -> Result<String, AllocError> {
-    match bytes_of(alloc, hex.as_bytes())? {
+/// The most bytes of a text that has tokens.
+const MOST: usize = 0x7FFF_FFFF;
+
+/// The tokens of a text: the kind, the start and the end of each; or the place of the first byte that begins none.
+pub fn tokens_of(alloc: Global, written: &str) -> Result<String, AllocError> {
+    match bytes_of(alloc, written)? {
         Some(text) => told(alloc, &text),
         None => String::from_str(alloc, "?"),
     }

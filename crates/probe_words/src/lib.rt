@@ -1,13 +1,17 @@
-//! What the two programs that answer line by line share: bytes written in hexadecimal, fractions and operations as they
-//! are printed, the lines of a text's faults, and the game that a text states.
+//! What the two programs that answer line by line share: `bytes_of` reads the bytes that a line writes, `game_of` tells
+//! the game that such bytes state or the line that refuses them, and fractions, operations and texts are printed.
+//! Nothing is promised but that no call fails where it shouldn't: what the answers mean is told by the contracts of the
+//! calls that are asked, and shown by the programs' `stdin` and `stdout`.
 #![tactic(auto)]
 
-mod faults;
+mod bytes;
 mod hex;
+mod lines;
+mod quoted;
 mod shown;
 mod stated;
 
-pub use faults::{lex_line, parse_line};
-pub use hex::{MOST, bytes_of};
+pub use bytes::bytes_of;
+pub use lines::one_line;
 pub use shown::{fraction_text, leaves_text};
 pub use stated::{Stated, game_of};

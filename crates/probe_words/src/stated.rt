@@ -1,14 +1,13 @@
-ghost use Rattle.std.specs.Prelude.{◌<◌, ◌^◌, length};
-ghost use Rattle.qm_lex.specs.Texts.{AreTokens};
-ghost use Rattle.qm_normal.specs.Trees.{IsTreeInOrder};
+ghost use Rattle.std.specs.Prelude.{◌≤◌, length};
 
-use crate::faults::{lex_line, parse_line};
-use crate::hex::{MOST, bytes_of};
+use crate::bytes::bytes_of;
+use crate::lines::first_line;
 use qm_game::Game;
-use qm_lex::{Token, tokens};
-use qm_normal::{NormalFault, normal, trees_of_texts_are_in_order};
-use qm_parse::{Ast, parse};
+use qm_top::stated_by;
 use std::alloc::{AllocError, Global};
+
+/// The most bytes of a text that states a game.
+const MOST: usize = 4_194_304;
 
 /// What a text states: a game, or the line that says why it states none.
 #[derive(Debug, Drop)]
@@ -17,10 +16,10 @@ pub enum Stated {
     Nothing(String),
 }
 
-/// The game of the text whose bytes are written in hexadecimal; else the line of its first fault, `refused` where it
-/// has no normal form, and `?` where other digits are written.
-pub fn game_of(alloc: Global, hex: &str) -> Result<Stated, AllocError> {
-    match bytes_of(alloc, hex.as_bytes())? {
+/// The game of a text that is written as `bytes_of` reads it; else the line that refuses it, and `?` where it is spelt
+/// wrongly or too long.
+pub fn game_of(alloc: Global, written: &str) -> Result<Stated, AllocError> {
+    match bytes_of(alloc, written)? {
         Some(text) if text.len() <= MOST => stated_by_text(alloc, &text),
         _ => nothing(alloc, "?"),
     }
@@ -31,31 +30,13 @@ fn nothing(alloc: Global, line: &str) -> Result<Stated, AllocError> {
 }
 
 fn stated_by_text(alloc: Global, text: &[u8]) -> Result<Stated, AllocError>
-    requires { length text.now < 2 ^ 31 }
+    requires { length text.now ≤ 4194304 }
 {
-    match tokens(alloc, text) {
-        Ok(tokens) => stated_by_tokens(alloc, text, tokens.as_slice()),
-        Err(fault) => Ok(Stated::Nothing(lex_line(alloc, fault)?)),
-    }
-}
-
-fn stated_by_tokens(alloc: Global, text: &[u8], tokens: &[Token]) -> Result<Stated, AllocError>
-    requires short { length text.now < 2 ^ 31 }
-    requires tokens { AreTokens text.now tokens.now }
-{
-    trees_of_texts_are_in_order();
-    match parse(alloc, text, tokens) {
-        Ok(ast) => stated_by_tree(alloc, &ast),
-        Err(fault) => Ok(Stated::Nothing(parse_line(alloc, &fault)?)),
-    }
-}
-
-fn stated_by_tree(alloc: Global, ast: &Ast) -> Result<Stated, AllocError>
-    requires { IsTreeInOrder ast.now }
-{
-    match normal(alloc, ast) {
-        Ok(game) => Ok(Stated::Game(game)),
-        Err(NormalFault::Memory) => nothing(alloc, "memory"),
-        Err(_) => nothing(alloc, "refused"),
+    match stated_by(alloc, text) {
+        Ok(qm_top::Stated::Game(game)) => Ok(Stated::Game(game)),
+        Ok(qm_top::Stated::Refused(report)) => {
+            Ok(Stated::Nothing(first_line(alloc, report.text())?))
+        }
+        Err(_) => nothing(alloc, "memory"),
     }
 }

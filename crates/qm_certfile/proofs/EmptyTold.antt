@@ -3,19 +3,18 @@ use Rattle.std.proofs.Common.{◌≡◌, ℕ, ◌+◌, ◌<◌, List, [], ◌∷
 use Rattle.std.specs.Prelude.{◌^◌, codes}
 use Rattle.std.specs.Fmt.{decimal}
 use Rattle.std.proofs.lemmas.List.{length-map}
-use Rattle.qm_trees.specs.Entries.{Combination}
 use Rattle.qm_trees.specs.declared.empty.Empty.{Empty, out-Empty}
 use Rattle.qm_trees.specs.declared.empty.EmptyPart.{EmptyPart, out-EmptyPart}
 use Rattle.qm_trees.specs.declared.empty.Empty.TheOpen as none
 use Rattle.qm_trees.specs.declared.empty.Empty.TheViews.{roll-Empty, roll-EmptyPart, roll-out-Empty, roll-out-EmptyPart}
-use Rattle.qm_trees.specs.declared.empty.Empty.TheFolds.{fold-roll-Empty, fold-roll-EmptyPart, fold_out-Empty, fold_out-EmptyPart, map-Empty, map-EmptyPart, ind-Empty}
-use Rattle.qm_certfile.specs.Lines.{Word, text_of}
+use Rattle.qm_trees.specs.declared.empty.Empty.TheFolds.{fold-roll-Empty, fold-roll-EmptyPart, map-Empty, map-EmptyPart, ind-Empty}
+use Rattle.qm_certfile.specs.Lines.{text_of}
 use Rattle.qm_certfile.specs.Numbers.{empty_number_step, empty_part_number_step, greatest_in_empty, greatest_in_empty_part}
 use Rattle.qm_certfile.specs.Styles.{first_style}
-use Rattle.qm_certfile.specs.TreeLines.{Lines, close_line, entry_word, joined, objective_words, empty_step, empty_part_step, empty_lines, empty_part_lines, illegal_lines}
+use Rattle.qm_certfile.specs.TreeLines.{Lines, joined, empty_step, empty_part_step, empty_lines, empty_part_lines, illegal_lines}
 use Rattle.qm_certfile.proofs.NumberWords.{decimal_same, differ, visible_decimal, visible_word}
-use Rattle.qm_certfile.proofs.LineSplits.{AreWords, IsTold, first_line, first_of_line, parts_told, word_same}
-use Rattle.qm_certfile.proofs.RowWords.{close_same, range_told, visible_close}
+use Rattle.qm_certfile.proofs.LineSplits.{AreWords, IsTold, told_by_layer, first_line, parts_told, word_same}
+use Rattle.qm_certfile.proofs.RowWords.{close_first, close_told, range_told}
 
 abbrev ToldEmpty : Empty → Type 0
 ToldEmpty t = IsTold Empty (empty_lines first_style) greatest_in_empty t
@@ -46,12 +45,6 @@ split_words var n k h = (visible_word (codes "split") tt, (visible_decimal var k
 abbrev first : List ℕ → ℕ
 first l = get_or l 0 0
 
-abbrev behind_close : Combination → List Word
-behind_close c = objective_words c.objective ++ map (entry_word first_style) c.entries
-
-close_first : (c : Combination) (x : List ℕ) → first (text_of (close_line first_style c ∷ []) ++ x) ≡ 99
-close_first c x = first_of_line 99 (codes "lose") (behind_close c) [] x
-
 layers_told : (y : Known) (z : Layer) (place : ℕ) (a b : List ℕ) → layer_number (plain y) < 10 ^ 64 → layer_number z < 10 ^ 64
     → text_of (layer_lines (plain y) place) ++ a ≡ text_of (layer_lines z place) ++ b → (plain y ≡ z) × (a ≡ b)
 layers_told (none.Split v ps) (none.Split w qs) place a b h k e =
@@ -74,18 +67,13 @@ layers_told (none.Split v ps) (none.Split w qs) place a b h k e =
 layers_told (none.Split v ps) (none.Close d) place a b h k e = absurd (differ 115 99 tt (ap first e ∙ close_first d b))
 layers_told (none.Close c) (none.Split w qs) place a b h k e = absurd (differ 99 115 tt (sym (close_first c a) ∙ ap first e))
 layers_told (none.Close c) (none.Close d) place a b h k e =
-    let line = first_line (codes "close") (codes "close") (behind_close c) (behind_close d) [] [] a b (visible_close c h) (visible_close d k) e in
-    (ap none.Close (close_same c d h k line.0), line.1)
+    let told = close_told c d a b h k e in
+    (ap none.Close told.0, told.1)
 
 empty_told_step : (x : Layer) (y : Known) → plain y ≡ x → ToldEmpty (roll-Empty x)
-empty_told_step x y is = subst (λ z. ToldEmpty (roll-Empty z)) is (λ place t a b h k e.
-    let here = fold-roll-Empty Lines Lines (empty_step first_style) empty_part_step (plain y) in
-    let there = fold_out-Empty Lines Lines (empty_step first_style) empty_part_step t in
-    let size_here = fold-roll-Empty ℕ ℕ empty_number_step empty_part_number_step (plain y) in
-    let size_there = fold_out-Empty ℕ ℕ empty_number_step empty_part_number_step t in
-    let told = layers_told y (out-Empty t) place a b (subst (λ n. n < 10 ^ 64) size_here h) (subst (λ n. n < 10 ^ 64) size_there k)
-    (sym (ap (λ (f : Lines). text_of (f place) ++ a) here) ∙ e ∙ ap (λ (f : Lines). text_of (f place) ++ b) there) in
-    (ap roll-Empty told.0 ∙ roll-out-Empty t, told.1))
+empty_told_step x y is = subst (λ z. ToldEmpty (roll-Empty z)) is
+    (told_by_layer Empty Layer (empty_lines first_style) greatest_in_empty roll-Empty out-Empty layer_lines layer_number roll-out-Empty
+    (fold-roll-Empty Lines Lines (empty_step first_style) empty_part_step) (fold-roll-Empty ℕ ℕ empty_number_step empty_part_number_step) (plain y) (layers_told y))
 
 -- ---- parts
 
@@ -111,14 +99,9 @@ part_layers_told y z place a b h k e =
     (λ i. record { range = range i; below = tree i }, below.1)
 
 part_told_step : (x : none.EmptyPart-F Empty EmptyPart) (y : KnownPart) → plain_part y ≡ x → ToldPart (roll-EmptyPart x)
-part_told_step x y is = subst (λ z. ToldPart (roll-EmptyPart z)) is (λ place t a b h k e.
-    let here = fold-roll-EmptyPart Lines Lines (empty_step first_style) empty_part_step (plain_part y) in
-    let there = fold_out-EmptyPart Lines Lines (empty_step first_style) empty_part_step t in
-    let size_here = fold-roll-EmptyPart ℕ ℕ empty_number_step empty_part_number_step (plain_part y) in
-    let size_there = fold_out-EmptyPart ℕ ℕ empty_number_step empty_part_number_step t in
-    let told = part_layers_told y (out-EmptyPart t) place a b (subst (λ n. n < 10 ^ 64) size_here h) (subst (λ n. n < 10 ^ 64) size_there k)
-    (sym (ap (λ (f : Lines). text_of (f place) ++ a) here) ∙ e ∙ ap (λ (f : Lines). text_of (f place) ++ b) there) in
-    (ap roll-EmptyPart told.0 ∙ roll-out-EmptyPart t, told.1))
+part_told_step x y is = subst (λ z. ToldPart (roll-EmptyPart z)) is
+    (told_by_layer EmptyPart (none.EmptyPart-F Empty EmptyPart) (empty_part_lines first_style) greatest_in_empty_part roll-EmptyPart out-EmptyPart part_layer_lines part_layer_number roll-out-EmptyPart
+    (fold-roll-EmptyPart Lines Lines (empty_step first_style) empty_part_step) (fold-roll-EmptyPart ℕ ℕ empty_number_step empty_part_number_step) (plain_part y) (part_layers_told y))
 
 pub empty_told : (t : Empty) → IsTold Empty (empty_lines first_style) greatest_in_empty t
 empty_told = ind-Empty ToldEmpty ToldPart empty_told_step part_told_step

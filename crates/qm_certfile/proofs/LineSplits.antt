@@ -1,11 +1,12 @@
 -- The text of a line tells its words, and where it ends.
-use Rattle.std.proofs.Common.{◌≡◌, ℕ, ◌<◌, ◌≤◌, List, [], ◌∷◌, ◌++◌, append_assoc, get_or, drop, length, map, refl, sym, ap, ◌∙◌, arith}
+use Rattle.std.proofs.Common.{◌≡◌, ℕ, ◌<◌, ◌≤◌, List, [], ◌∷◌, ◌++◌, append_assoc, get_or, drop, length, map, refl, sym, ap, ◌∙◌, subst, arith}
 use Rattle.std.specs.Prelude.{◌^◌}
+use Rattle.qm_math.proofs.Lists.{cons-rest, cons-first}
 use Rattle.qm_certfile.specs.Lines.{Word, Line, line_text, text_of}
 use Rattle.qm_certfile.specs.Numbers.{greatest}
 use Rattle.qm_certfile.specs.TreeLines.{Lines, joined}
 use Rattle.qm_certfile.proofs.LineTexts.{text_of_append}
-use Rattle.qm_certfile.proofs.NumberWords.{AreVisible, first_byte, later_bytes, not_empty}
+use Rattle.qm_certfile.proofs.NumberWords.{AreVisible, not_empty}
 
 -- words of visible bytes
 abbrev pub AreWords : List Word → Type 0
@@ -18,12 +19,12 @@ words_append (w ∷ ws) more p q = (p.0, words_append ws more p.1 q)
 
 -- a space or LF ends a word
 word_split : (w v : Word) (a b : ℕ) (x y : List ℕ) → AreVisible w → AreVisible v → a ≤ 32 → b ≤ 32 → w ++ a ∷ x ≡ v ++ b ∷ y → (w ≡ v) × (a ≡ b) × (x ≡ y)
-word_split [] [] a b x y p q k l e = (refl, first_byte e, later_bytes e)
-word_split [] (c ∷ v) a b x y p q k l e = let same : a ≡ c = first_byte e in let above = q.0 in absurd (omega arith)
-word_split (c ∷ w) [] a b x y p q k l e = let same : c ≡ b = first_byte e in let above = p.0 in absurd (omega arith)
+word_split [] [] a b x y p q k l e = (refl, cons-first _ _ _ _ e, cons-rest _ _ _ _ e)
+word_split [] (c ∷ v) a b x y p q k l e = let same : a ≡ c = cons-first _ _ _ _ e in let above = q.0 in absurd (omega arith)
+word_split (c ∷ w) [] a b x y p q k l e = let same : c ≡ b = cons-first _ _ _ _ e in let above = p.0 in absurd (omega arith)
 word_split (c ∷ w) (d ∷ v) a b x y p q k l e =
-    let rest = word_split w v a b x y p.1 q.1 k l (later_bytes e) in
-    let same = first_byte e in
+    let rest = word_split w v a b x y p.1 q.1 k l (cons-rest _ _ _ _ e) in
+    let same = cons-first _ _ _ _ e in
     (λ i. same i ∷ rest.0 i, rest.1, rest.2)
 
 pub line_split : (w v : Word) (ws vs : List Word) (x y : List ℕ) → AreWords (w ∷ ws) → AreWords (v ∷ vs) → line_text (w ∷ ws) ++ x ≡ line_text (v ∷ vs) ++ y
@@ -104,3 +105,15 @@ parts_told A lines size (p ∷ ps) (q ∷ qs) place x y h k l e =
     ∙ ap (λ t. t ++ y) (text_of_append other others) ∙ append_assoc (text_of other) (text_of others) y) in
     let rest = parts_told A lines size ps qs place x y (omega (arith, h)) (omega arith) (omega arith) told.1 in
     (λ i. told.0 i ∷ rest.0 i, rest.1)
+
+-- what its layer tells, a tree tells
+pub told_by_layer : (A L : Type 0) (lines : A → Lines) (size : A → ℕ) (roll : L → A) (out : A → L) (layer_lines : L → Lines) (layer_size : L → ℕ)
+    → ((a : A) → roll (out a) ≡ a) → ((z : L) → lines (roll z) ≡ layer_lines z) → ((z : L) → size (roll z) ≡ layer_size z) → (z : L)
+    → ((other : L) (place : ℕ) (x y : List ℕ) → layer_size z < 10 ^ 64 → layer_size other < 10 ^ 64 → text_of (layer_lines z place) ++ x ≡ text_of (layer_lines other place) ++ y → (z ≡ other) × (x ≡ y))
+    → IsTold A lines size (roll z)
+told_by_layer A L lines size roll out layer_lines layer_size back lines_are size_is z told = λ place b x y h k e.
+    let there : lines b ≡ layer_lines (out b) = ap lines (sym (back b)) ∙ lines_are (out b) in
+    let size_there : size b ≡ layer_size (out b) = ap size (sym (back b)) ∙ size_is (out b) in
+    let same = told (out b) place x y (subst (λ n. n < 10 ^ 64) (size_is z) h) (subst (λ n. n < 10 ^ 64) size_there k)
+    (sym (ap (λ (f : Lines). text_of (f place) ++ x) (lines_are z)) ∙ e ∙ ap (λ (f : Lines). text_of (f place) ++ y) there) in
+    (ap roll same.0 ∙ back b, same.1)

@@ -2,7 +2,7 @@
 use Rattle.std.proofs.Common.{◌≡◌, ℕ, List, [], ◌∷◌, ◌++◌, append_assoc, refl, sym, ap, ◌∙◌, Result, Ok, Err}
 use Rattle.std.specs.Prelude.{OnOk}
 use Rattle.qm_certfile.specs.Lines.{Word, Line, line_text, text_of}
-use Rattle.qm_certfile.specs.Pieces.{spaced}
+use Rattle.qm_certfile.specs.LineSteps.{spaced}
 
 -- a line is its first word, the others each behind a space, and LF
 pub line_spaced : (word : Word) (words : List Word) → line_text (word ∷ words) ≡ word ++ (spaced words ++ 10 ∷ [])

@@ -1,5 +1,5 @@
 -- The words of numbers tell the numbers.
-use Rattle.std.proofs.Common.{◌≡◌, ℕ, suc, ◌<◌, ◌≤◌, Bool, true, false, not, ◌&&◌, eqb, ltb, T, ℤ, pos, negsuc, List, [], ◌∷◌, ◌++◌, length, get_or, drop, refl, sym, ap, ◌∙◌, subst, arith, unsigned_abs}
+use Rattle.std.proofs.Common.{◌≡◌, ℕ, suc, ◌<◌, ◌≤◌, Bool, true, false, not, ◌&&◌, eqb, ltb, T, ℤ, pos, negsuc, List, [], ◌∷◌, ◌++◌, length, refl, sym, ap, ◌∙◌, subst, arith, unsigned_abs}
 use Rattle.std.specs.Prelude.{◌^◌, ◌==◌, if◌then◌else◌}
 use Rattle.std.specs.Fmt.{decimal, signed_decimal}
 use Rattle.std.specs.Str.Parse.{AllDigits, digits_value}
@@ -8,6 +8,7 @@ use Rattle.std.proofs.lemmas.Bool.{eq-eqb, eqb-true}
 use Rattle.std.proofs.lemmas.Fmt.{decimal_is_IsNumeral_wide}
 use Rattle.std.proofs.lemmas.Str.Parse.{digit_from_value}
 use Rattle.qm_math.specs.Fraction.{Fraction}
+use Rattle.qm_math.proofs.Lists.{cons-rest, cons-first}
 use Rattle.qm_text.specs.Numbers.{number_word}
 use Rattle.qm_certfile.specs.Lines.{Word}
 use Rattle.qm_certfile.specs.Numbers.{greatest_of_fraction}
@@ -41,37 +42,31 @@ abbrev pub Lacks : ℕ → List ℕ → Type 0
 Lacks s [] = Unit {0}
 Lacks s (b ∷ bs) = (b ≡ s → ⊥) × Lacks s bs
 
-pub first_byte : {b c : ℕ} {bs cs : List ℕ} → b ∷ bs ≡ c ∷ cs → b ≡ c
-first_byte e = ap (λ l. get_or l 0 0) e
-
-pub later_bytes : {b c : ℕ} {bs cs : List ℕ} → b ∷ bs ≡ c ∷ cs → bs ≡ cs
-later_bytes e = ap (drop 1) e
-
 -- two numbers that are written out and differ
 pub differ : (b c : ℕ) → T (not (eqb b c)) → b ≡ c → ⊥
 differ b c t e = subst (λ s. T (not s)) (eq-eqb b c e) t
 
 pub apart : (b c : ℕ) {bs cs : List ℕ} → T (not (eqb b c)) → b ∷ bs ≡ c ∷ cs → ⊥
-apart b c t e = differ b c t (first_byte e)
+apart b c t e = differ b c t (cons-first _ _ _ _ e)
 
 pub not_empty : {A : Type 0} (x : A) (xs : List A) → [] ≡ x ∷ xs → ⊥
 not_empty x xs e = let l : 0 ≡ suc (length xs) = ap length e in omega arith
 
 -- where the words in front have no s, the first s tells them
 pub split_at_first : (s : ℕ) (w v x y : List ℕ) → Lacks s w → Lacks s v → w ++ s ∷ x ≡ v ++ s ∷ y → (w ≡ v) × (x ≡ y)
-split_at_first s [] [] x y p q e = (refl, later_bytes e)
-split_at_first s [] (c ∷ v) x y p q e = absurd (q.0 (sym (first_byte e)))
-split_at_first s (b ∷ w) [] x y p q e = absurd (p.0 (first_byte e))
+split_at_first s [] [] x y p q e = (refl, cons-rest _ _ _ _ e)
+split_at_first s [] (c ∷ v) x y p q e = absurd (q.0 (sym (cons-first _ _ _ _ e)))
+split_at_first s (b ∷ w) [] x y p q e = absurd (p.0 (cons-first _ _ _ _ e))
 split_at_first s (b ∷ w) (c ∷ v) x y p q e =
-    let rest = split_at_first s w v x y p.1 q.1 (later_bytes e) in
-    let same = first_byte e in
+    let rest = split_at_first s w v x y p.1 q.1 (cons-rest _ _ _ _ e) in
+    let same = cons-first _ _ _ _ e in
     (λ i. same i ∷ rest.0 i, rest.1)
 
 pub has_one : (s : ℕ) (w v y : List ℕ) → Lacks s w → w ≡ v ++ s ∷ y → ⊥
 has_one s [] [] y p e = not_empty s y e
 has_one s [] (c ∷ v) y p e = not_empty c (v ++ s ∷ y) e
-has_one s (b ∷ w) [] y p e = p.0 (first_byte e)
-has_one s (b ∷ w) (c ∷ v) y p e = has_one s w v y p.1 (later_bytes e)
+has_one s (b ∷ w) [] y p e = p.0 (cons-first _ _ _ _ e)
+has_one s (b ∷ w) (c ∷ v) y p e = has_one s w v y p.1 (cons-rest _ _ _ _ e)
 
 -- ---- whole numbers
 
@@ -110,7 +105,7 @@ pub signed_same : (y z : ℤ) → unsigned_abs y < 10 ^ 64 → unsigned_abs z < 
 signed_same (pos m) (pos n) p q e = ap pos (decimal_same m n (omega arith) (omega arith) e)
 signed_same (pos m) (negsuc n) p q e = absurd (no_minus m (decimal (suc n)) (omega arith) e)
 signed_same (negsuc m) (pos n) p q e = absurd (no_minus n (decimal (suc m)) (omega arith) (sym e))
-signed_same (negsuc m) (negsuc n) p q e = ap negsuc (omega (arith, decimal_same (suc m) (suc n) (omega arith) (omega arith) (later_bytes e)))
+signed_same (negsuc m) (negsuc n) p q e = ap negsuc (omega (arith, decimal_same (suc m) (suc n) (omega arith) (omega arith) (cons-rest _ _ _ _ e)))
 
 -- ---- fractions
 

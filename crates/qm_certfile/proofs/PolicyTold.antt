@@ -1,24 +1,23 @@
 -- The text of a policy tells the policy, and where it ends.
-use Rattle.std.proofs.Common.{◌≡◌, ℕ, ◌+◌, ◌<◌, ℤ, List, [], ◌∷◌, ◌++◌, length, get_or, map, sym, ap, ◌∙◌, subst, arith}
+use Rattle.std.proofs.Common.{◌≡◌, ℕ, ◌+◌, ◌<◌, ℤ, List, [], ◌∷◌, ◌++◌, get_or, map, sym, ap, ◌∙◌, subst, arith}
 use Rattle.std.specs.Prelude.{◌^◌, codes, unsigned_abs}
-use Rattle.std.specs.Fmt.{decimal, signed_decimal}
-use Rattle.std.proofs.lemmas.List.{length-map}
+use Rattle.std.specs.Fmt.{signed_decimal}
 use Rattle.qm_math.specs.Fraction.{Fraction}
 use Rattle.qm_trees.specs.declared.policy.Policy.{Policy, out-Policy}
 use Rattle.qm_trees.specs.declared.policy.Below.{Below, out-Below}
 use Rattle.qm_trees.specs.declared.policy.PolicyPart.{PolicyPart, out-PolicyPart}
 use Rattle.qm_trees.specs.declared.policy.Below.TheOpen as answer
 use Rattle.qm_trees.specs.declared.policy.Below.TheViews.{roll-Policy, roll-Below, roll-PolicyPart, roll-out-Policy, roll-out-Below, roll-out-PolicyPart}
-use Rattle.qm_trees.specs.declared.policy.Below.TheFolds.{fold-Below, fold-roll-Below, fold-roll-Policy, fold-roll-PolicyPart, fold_out-Below, fold_out-Policy, fold_out-PolicyPart, map-Below, map-Policy, map-PolicyPart, ind-Policy}
+use Rattle.qm_trees.specs.declared.policy.Below.TheFolds.{fold-roll-Below, fold-roll-Policy, fold-roll-PolicyPart, fold_out-Policy, map-Below, map-Policy, map-PolicyPart, ind-Policy}
 use Rattle.qm_text.specs.Numbers.{number_word}
 use Rattle.qm_certfile.specs.Lines.{text_of}
 use Rattle.qm_certfile.specs.Numbers.{greatest, greatest_of_fraction, below_number_step, policy_number_step, policy_part_number_step, greatest_in_below, greatest_in_policy, greatest_in_policy_part}
 use Rattle.qm_certfile.specs.Styles.{first_style}
-use Rattle.qm_certfile.specs.TreeLines.{Lines, joined, below_lines, below_step, policy_step, policy_part_step, policy_lines, policy_part_lines}
-use Rattle.qm_certfile.proofs.NumberWords.{apart, differ, decimal_same, signed_same, visible_decimal, visible_signed, visible_word}
-use Rattle.qm_certfile.proofs.LineSplits.{AreWords, IsTold, first_line, first_of_line, parts_told, same_words, visible_words, word_same, words_behind}
+use Rattle.qm_certfile.specs.TreeLines.{Lines, below_lines, below_step, policy_step, policy_part_step, policy_lines, policy_part_lines}
+use Rattle.qm_certfile.proofs.NumberWords.{apart, differ, signed_same, visible_signed, visible_word}
+use Rattle.qm_certfile.proofs.LineSplits.{AreWords, IsTold, told_by_layer, first_line, first_of_line, same_words, visible_words, word_same, words_behind}
 use Rattle.qm_certfile.proofs.EmptyTold.{illegal_told}
-use Rattle.qm_certfile.proofs.RowWords.{fractions_spell, range_told}
+use Rattle.qm_certfile.proofs.RowWords.{count_told, fractions_spell, range_told}
 
 abbrev lines_below : Below → Lines
 lines_below = below_lines first_style
@@ -52,9 +51,6 @@ layer_number z = policy_number_step (map-Policy Below Policy PolicyPart ℕ ℕ 
 choose_words : (v : ℤ) → unsigned_abs v < 10 ^ 64 → AreWords (codes "choose" ∷ signed_decimal v ∷ [])
 choose_words v h = (visible_word (codes "choose") tt, (visible_signed v h, tt))
 
-answer_words : (n : ℕ) → n < 10 ^ 64 → AreWords (codes "answer" ∷ decimal n ∷ [])
-answer_words n h = (visible_word (codes "answer") tt, (visible_decimal n h, tt))
-
 leaf_words : (point : List Fraction) → greatest (map greatest_of_fraction point) < 10 ^ 64 → AreWords (codes "leaf" ∷ map number_word point)
 leaf_words point h = (visible_word (codes "leaf") tt, visible_words number_word greatest_of_fraction fractions_spell point h)
 
@@ -76,19 +72,7 @@ layers_told (answer.Choose v p) (answer.Answer qs) place a b h k e = absurd (apa
 layers_told (answer.Choose v p) (answer.Leaf ys) place a b h k e = absurd (differ 99 108 tt (ap first e ∙ leaf_first ys b))
 layers_told (answer.Answer ps) (answer.Choose w q) place a b h k e = absurd (apart 97 99 tt e)
 layers_told (answer.Answer ps) (answer.Answer qs) place a b h k e =
-    let lines = policy_part_lines first_style in
-    let parts = map (λ (r : (r : PolicyPart) × ToldPart r). r.0) ps in
-    let some = length-map parts lines in
-    let others = length-map qs lines in
-    let some_numbers = length-map parts greatest_in_policy_part in
-    let other_numbers = length-map qs greatest_in_policy_part in
-    let known = length-map ps (λ (r : (r : PolicyPart) × ToldPart r). r.0) in
-    let m : length (map lines parts) < 10 ^ 64 = omega (arith, some, some_numbers) in
-    let n : length (map lines qs) < 10 ^ 64 = omega (arith, others, other_numbers) in
-    let line = first_line (codes "answer") (codes "answer") (decimal (length (map lines parts)) ∷ []) (decimal (length (map lines qs)) ∷ [])
-    (text_of (joined (map lines parts) (place + 1))) (text_of (joined (map lines qs) (place + 1))) a b (answer_words (length (map lines parts)) m) (answer_words (length (map lines qs)) n) e in
-    let count = decimal_same (length (map lines parts)) (length (map lines qs)) m n (word_same 1 line.0) in
-    let told = parts_told PolicyPart lines greatest_in_policy_part ps qs (place + 1) a b (omega (arith, count, some, others, known)) (omega arith) (omega arith) line.1 in
+    let told = count_told PolicyPart (policy_part_lines first_style) greatest_in_policy_part (codes "answer") ps qs (place + 1) a b (visible_word (codes "answer") tt) h k e in
     (ap answer.Answer told.0, told.1)
 layers_told (answer.Answer ps) (answer.Leaf ys) place a b h k e = absurd (differ 97 108 tt (ap first e ∙ leaf_first ys b))
 layers_told (answer.Leaf xs) (answer.Choose w q) place a b h k e = absurd (differ 108 99 tt (sym (leaf_first xs a) ∙ ap first e))
@@ -98,14 +82,9 @@ layers_told (answer.Leaf xs) (answer.Leaf ys) place a b h k e =
     (ap answer.Leaf (same_words number_word greatest_of_fraction fractions_spell xs ys h k (words_behind 1 line.0)), line.1)
 
 policy_told_step : (x : Layer) (y : Known) → plain y ≡ x → ToldPolicy (roll-Policy x)
-policy_told_step x y is = subst (λ z. ToldPolicy (roll-Policy z)) is (λ place t a b h k e.
-    let here = fold-roll-Policy Lines Lines Lines (below_step first_style) (policy_step first_style) policy_part_step (plain y) in
-    let there = fold_out-Policy Lines Lines Lines (below_step first_style) (policy_step first_style) policy_part_step t in
-    let size_here = fold-roll-Policy ℕ ℕ ℕ below_number_step policy_number_step policy_part_number_step (plain y) in
-    let size_there = fold_out-Policy ℕ ℕ ℕ below_number_step policy_number_step policy_part_number_step t in
-    let told = layers_told y (out-Policy t) place a b (subst (λ n. n < 10 ^ 64) size_here h) (subst (λ n. n < 10 ^ 64) size_there k)
-    (sym (ap (λ (f : Lines). text_of (f place) ++ a) here) ∙ e ∙ ap (λ (f : Lines). text_of (f place) ++ b) there) in
-    (ap roll-Policy told.0 ∙ roll-out-Policy t, told.1))
+policy_told_step x y is = subst (λ z. ToldPolicy (roll-Policy z)) is
+    (told_by_layer Policy Layer (policy_lines first_style) greatest_in_policy roll-Policy out-Policy layer_lines layer_number roll-out-Policy
+    (fold-roll-Policy Lines Lines Lines (below_step first_style) (policy_step first_style) policy_part_step) (fold-roll-Policy ℕ ℕ ℕ below_number_step policy_number_step policy_part_number_step) (plain y) (layers_told y))
 
 -- ---- what stands below a range
 
@@ -144,14 +123,9 @@ belows_told (answer.Illegal s) (answer.Illegal t) place a b h k e =
     (ap answer.Illegal told.0, told.1)
 
 below_told_step : (x : answer.Below-F Below Policy PolicyPart) (y : KnownBelow) → plain_below y ≡ x → ToldBelow (roll-Below x)
-below_told_step x y is = subst (λ z. ToldBelow (roll-Below z)) is (λ place t a b h k e.
-    let here = fold-roll-Below Lines Lines Lines (below_step first_style) (policy_step first_style) policy_part_step (plain_below y) in
-    let there = fold_out-Below Lines Lines Lines (below_step first_style) (policy_step first_style) policy_part_step t in
-    let size_here = fold-roll-Below ℕ ℕ ℕ below_number_step policy_number_step policy_part_number_step (plain_below y) in
-    let size_there = fold_out-Below ℕ ℕ ℕ below_number_step policy_number_step policy_part_number_step t in
-    let told = belows_told y (out-Below t) place a b (subst (λ n. n < 10 ^ 64) size_here h) (subst (λ n. n < 10 ^ 64) size_there k)
-    (sym (ap (λ (f : Lines). text_of (f place) ++ a) here) ∙ e ∙ ap (λ (f : Lines). text_of (f place) ++ b) there) in
-    (ap roll-Below told.0 ∙ roll-out-Below t, told.1))
+below_told_step x y is = subst (λ z. ToldBelow (roll-Below z)) is
+    (told_by_layer Below (answer.Below-F Below Policy PolicyPart) lines_below greatest_in_below roll-Below out-Below below_layer_lines below_layer_number roll-out-Below
+    (fold-roll-Below Lines Lines Lines (below_step first_style) (policy_step first_style) policy_part_step) (fold-roll-Below ℕ ℕ ℕ below_number_step policy_number_step policy_part_number_step) (plain_below y) (belows_told y))
 
 -- ---- parts
 
@@ -177,14 +151,9 @@ parts_told_each y z place a b h k e =
     (λ i. record { range = range i; below = tree i }, below.1)
 
 part_told_step : (x : answer.PolicyPart-F Below Policy PolicyPart) (y : KnownPart) → plain_part y ≡ x → ToldPart (roll-PolicyPart x)
-part_told_step x y is = subst (λ z. ToldPart (roll-PolicyPart z)) is (λ place t a b h k e.
-    let here = fold-roll-PolicyPart Lines Lines Lines (below_step first_style) (policy_step first_style) policy_part_step (plain_part y) in
-    let there = fold_out-PolicyPart Lines Lines Lines (below_step first_style) (policy_step first_style) policy_part_step t in
-    let size_here = fold-roll-PolicyPart ℕ ℕ ℕ below_number_step policy_number_step policy_part_number_step (plain_part y) in
-    let size_there = fold_out-PolicyPart ℕ ℕ ℕ below_number_step policy_number_step policy_part_number_step t in
-    let told = parts_told_each y (out-PolicyPart t) place a b (subst (λ n. n < 10 ^ 64) size_here h) (subst (λ n. n < 10 ^ 64) size_there k)
-    (sym (ap (λ (f : Lines). text_of (f place) ++ a) here) ∙ e ∙ ap (λ (f : Lines). text_of (f place) ++ b) there) in
-    (ap roll-PolicyPart told.0 ∙ roll-out-PolicyPart t, told.1))
+part_told_step x y is = subst (λ z. ToldPart (roll-PolicyPart z)) is
+    (told_by_layer PolicyPart (answer.PolicyPart-F Below Policy PolicyPart) (policy_part_lines first_style) greatest_in_policy_part roll-PolicyPart out-PolicyPart part_layer_lines part_layer_number roll-out-PolicyPart
+    (fold-roll-PolicyPart Lines Lines Lines (below_step first_style) (policy_step first_style) policy_part_step) (fold-roll-PolicyPart ℕ ℕ ℕ below_number_step policy_number_step policy_part_number_step) (plain_part y) (parts_told_each y))
 
 pub policy_told : (p : Policy) → IsTold Policy (policy_lines first_style) greatest_in_policy p
 policy_told = ind-Policy ToldBelow ToldPolicy ToldPart below_told_step policy_told_step part_told_step

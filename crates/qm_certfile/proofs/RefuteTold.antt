@@ -1,21 +1,19 @@
 -- The text of a refutation tells the refutation, and where it ends.
-use Rattle.std.proofs.Common.{◌≡◌, ℕ, ◌+◌, ◌<◌, ℤ, List, [], ◌∷◌, ◌++◌, length, get_or, map, sym, ap, ◌∙◌, subst, arith}
+use Rattle.std.proofs.Common.{◌≡◌, ℕ, ◌+◌, ◌<◌, ℤ, List, ◌∷◌, ◌++◌, get_or, map, sym, ap, ◌∙◌, subst, arith}
 use Rattle.std.specs.Prelude.{◌^◌, codes, unsigned_abs}
-use Rattle.std.specs.Fmt.{decimal, signed_decimal}
-use Rattle.std.proofs.lemmas.List.{length-map}
-use Rattle.qm_trees.specs.Entries.{Combination}
+use Rattle.std.specs.Fmt.{signed_decimal}
 use Rattle.qm_trees.specs.declared.refutation.Refute.{Refute, out-Refute}
 use Rattle.qm_trees.specs.declared.refutation.RefutePart.{RefutePart, out-RefutePart}
 use Rattle.qm_trees.specs.declared.refutation.Refute.TheOpen as why
 use Rattle.qm_trees.specs.declared.refutation.Refute.TheViews.{roll-Refute, roll-RefutePart, roll-out-Refute, roll-out-RefutePart}
-use Rattle.qm_trees.specs.declared.refutation.Refute.TheFolds.{fold-roll-Refute, fold-roll-RefutePart, fold_out-Refute, fold_out-RefutePart, map-Refute, map-RefutePart, ind-Refute}
-use Rattle.qm_certfile.specs.Lines.{Word, text_of}
+use Rattle.qm_trees.specs.declared.refutation.Refute.TheFolds.{fold-roll-Refute, fold-roll-RefutePart, map-Refute, map-RefutePart, ind-Refute}
+use Rattle.qm_certfile.specs.Lines.{text_of}
 use Rattle.qm_certfile.specs.Numbers.{greatest, refute_number_step, refute_part_number_step, greatest_in_refute, greatest_in_refute_part}
 use Rattle.qm_certfile.specs.Styles.{first_style}
-use Rattle.qm_certfile.specs.TreeLines.{Lines, close_line, entry_word, joined, objective_words, refute_step, refute_part_step, refute_lines, refute_part_lines}
-use Rattle.qm_certfile.proofs.NumberWords.{apart, decimal_same, differ, signed_same, visible_decimal, visible_signed, visible_word}
-use Rattle.qm_certfile.proofs.LineSplits.{AreWords, IsTold, first_line, first_of_line, parts_told, same_words, visible_words, word_same, words_behind}
-use Rattle.qm_certfile.proofs.RowWords.{close_same, range_told, visible_close, wholes_spell}
+use Rattle.qm_certfile.specs.TreeLines.{Lines, refute_step, refute_part_step, refute_lines, refute_part_lines}
+use Rattle.qm_certfile.proofs.NumberWords.{apart, differ, signed_same, visible_signed, visible_word}
+use Rattle.qm_certfile.proofs.LineSplits.{AreWords, IsTold, told_by_layer, first_line, same_words, visible_words, word_same, words_behind}
+use Rattle.qm_certfile.proofs.RowWords.{close_first, close_told, count_told, range_told, wholes_spell}
 
 abbrev ToldRefute : Refute → Type 0
 ToldRefute t = IsTold Refute (refute_lines first_style) greatest_in_refute t
@@ -40,37 +38,16 @@ layer_lines z = refute_step first_style (map-Refute Refute RefutePart Lines Line
 abbrev layer_number : Layer → ℕ
 layer_number z = refute_number_step (map-Refute Refute RefutePart ℕ ℕ greatest_in_refute greatest_in_refute_part z)
 
-over_words : (n : ℕ) → n < 10 ^ 64 → AreWords (codes "over" ∷ decimal n ∷ [])
-over_words n h = (visible_word (codes "over") tt, (visible_decimal n h, tt))
-
 pick_words : (v : ℤ) (values : List ℤ) → unsigned_abs v < 10 ^ 64 → greatest (map unsigned_abs values) < 10 ^ 64 → AreWords (codes "pick" ∷ signed_decimal v ∷ map signed_decimal values)
 pick_words v values h k = (visible_word (codes "pick") tt, (visible_signed v h, visible_words signed_decimal unsigned_abs wholes_spell values k))
 
 abbrev first : List ℕ → ℕ
 first l = get_or l 0 0
 
-abbrev behind_close : Combination → List Word
-behind_close c = objective_words c.objective ++ map (entry_word first_style) c.entries
-
-close_first : (c : Combination) (x : List ℕ) → first (text_of (close_line first_style c ∷ []) ++ x) ≡ 99
-close_first c x = first_of_line 99 (codes "lose") (behind_close c) [] x
-
 layers_told : (y : Known) (z : Layer) (place : ℕ) (a b : List ℕ) → layer_number (plain y) < 10 ^ 64 → layer_number z < 10 ^ 64
     → text_of (layer_lines (plain y) place) ++ a ≡ text_of (layer_lines z place) ++ b → (plain y ≡ z) × (a ≡ b)
 layers_told (why.Over ps) (why.Over qs) place a b h k e =
-    let lines = refute_part_lines first_style in
-    let parts = map (λ (r : (r : RefutePart) × ToldPart r). r.0) ps in
-    let some = length-map parts lines in
-    let others = length-map qs lines in
-    let some_numbers = length-map parts greatest_in_refute_part in
-    let other_numbers = length-map qs greatest_in_refute_part in
-    let known = length-map ps (λ (r : (r : RefutePart) × ToldPart r). r.0) in
-    let m : length (map lines parts) < 10 ^ 64 = omega (arith, some, some_numbers) in
-    let n : length (map lines qs) < 10 ^ 64 = omega (arith, others, other_numbers) in
-    let line = first_line (codes "over") (codes "over") (decimal (length (map lines parts)) ∷ []) (decimal (length (map lines qs)) ∷ [])
-    (text_of (joined (map lines parts) (place + 1))) (text_of (joined (map lines qs) (place + 1))) a b (over_words (length (map lines parts)) m) (over_words (length (map lines qs)) n) e in
-    let count = decimal_same (length (map lines parts)) (length (map lines qs)) m n (word_same 1 line.0) in
-    let told = parts_told RefutePart lines greatest_in_refute_part ps qs (place + 1) a b (omega (arith, count, some, others, known)) (omega arith) (omega arith) line.1 in
+    let told = count_told RefutePart (refute_part_lines first_style) greatest_in_refute_part (codes "over") ps qs (place + 1) a b (visible_word (codes "over") tt) h k e in
     (ap why.Over told.0, told.1)
 layers_told (why.Over ps) (why.Pick w others q) place a b h k e = absurd (apart 111 112 tt e)
 layers_told (why.Over ps) (why.Close d) place a b h k e = absurd (differ 111 99 tt (ap first e ∙ close_first d b))
@@ -87,18 +64,13 @@ layers_told (why.Pick v values p) (why.Close d) place a b h k e = absurd (differ
 layers_told (why.Close c) (why.Over qs) place a b h k e = absurd (differ 99 111 tt (sym (close_first c a) ∙ ap first e))
 layers_told (why.Close c) (why.Pick w others q) place a b h k e = absurd (differ 99 112 tt (sym (close_first c a) ∙ ap first e))
 layers_told (why.Close c) (why.Close d) place a b h k e =
-    let line = first_line (codes "close") (codes "close") (behind_close c) (behind_close d) [] [] a b (visible_close c h) (visible_close d k) e in
-    (ap why.Close (close_same c d h k line.0), line.1)
+    let told = close_told c d a b h k e in
+    (ap why.Close told.0, told.1)
 
 refute_told_step : (x : Layer) (y : Known) → plain y ≡ x → ToldRefute (roll-Refute x)
-refute_told_step x y is = subst (λ z. ToldRefute (roll-Refute z)) is (λ place t a b h k e.
-    let here = fold-roll-Refute Lines Lines (refute_step first_style) refute_part_step (plain y) in
-    let there = fold_out-Refute Lines Lines (refute_step first_style) refute_part_step t in
-    let size_here = fold-roll-Refute ℕ ℕ refute_number_step refute_part_number_step (plain y) in
-    let size_there = fold_out-Refute ℕ ℕ refute_number_step refute_part_number_step t in
-    let told = layers_told y (out-Refute t) place a b (subst (λ n. n < 10 ^ 64) size_here h) (subst (λ n. n < 10 ^ 64) size_there k)
-    (sym (ap (λ (f : Lines). text_of (f place) ++ a) here) ∙ e ∙ ap (λ (f : Lines). text_of (f place) ++ b) there) in
-    (ap roll-Refute told.0 ∙ roll-out-Refute t, told.1))
+refute_told_step x y is = subst (λ z. ToldRefute (roll-Refute z)) is
+    (told_by_layer Refute Layer (refute_lines first_style) greatest_in_refute roll-Refute out-Refute layer_lines layer_number roll-out-Refute
+    (fold-roll-Refute Lines Lines (refute_step first_style) refute_part_step) (fold-roll-Refute ℕ ℕ refute_number_step refute_part_number_step) (plain y) (layers_told y))
 
 -- ---- parts
 
@@ -124,14 +96,9 @@ part_layers_told y z place a b h k e =
     (λ i. record { range = range i; below = tree i }, below.1)
 
 part_told_step : (x : why.RefutePart-F Refute RefutePart) (y : KnownPart) → plain_part y ≡ x → ToldPart (roll-RefutePart x)
-part_told_step x y is = subst (λ z. ToldPart (roll-RefutePart z)) is (λ place t a b h k e.
-    let here = fold-roll-RefutePart Lines Lines (refute_step first_style) refute_part_step (plain_part y) in
-    let there = fold_out-RefutePart Lines Lines (refute_step first_style) refute_part_step t in
-    let size_here = fold-roll-RefutePart ℕ ℕ refute_number_step refute_part_number_step (plain_part y) in
-    let size_there = fold_out-RefutePart ℕ ℕ refute_number_step refute_part_number_step t in
-    let told = part_layers_told y (out-RefutePart t) place a b (subst (λ n. n < 10 ^ 64) size_here h) (subst (λ n. n < 10 ^ 64) size_there k)
-    (sym (ap (λ (f : Lines). text_of (f place) ++ a) here) ∙ e ∙ ap (λ (f : Lines). text_of (f place) ++ b) there) in
-    (ap roll-RefutePart told.0 ∙ roll-out-RefutePart t, told.1))
+part_told_step x y is = subst (λ z. ToldPart (roll-RefutePart z)) is
+    (told_by_layer RefutePart (why.RefutePart-F Refute RefutePart) (refute_part_lines first_style) greatest_in_refute_part roll-RefutePart out-RefutePart part_layer_lines part_layer_number roll-out-RefutePart
+    (fold-roll-RefutePart Lines Lines (refute_step first_style) refute_part_step) (fold-roll-RefutePart ℕ ℕ refute_number_step refute_part_number_step) (plain_part y) (part_layers_told y))
 
 pub refute_told : (t : Refute) → IsTold Refute (refute_lines first_style) greatest_in_refute t
 refute_told = ind-Refute ToldRefute ToldPart refute_told_step part_told_step

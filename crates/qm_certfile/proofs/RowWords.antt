@@ -1,19 +1,21 @@
 -- The words of a combination tell it.
-use Rattle.std.proofs.Common.{◌≡◌, ℕ, ◌+◌, ◌<◌, Bool, true, false, List, [], ◌∷◌, ◌++◌, map, refl, sym, ap, arith, unsigned_abs}
-use Rattle.std.specs.Prelude.{◌^◌, codes}
-use Rattle.std.specs.Fmt.{signed_decimal}
+use Rattle.std.proofs.Common.{◌≡◌, ℕ, ◌+◌, ◌<◌, Bool, true, false, List, [], ◌∷◌, ◌++◌, get_or, length, map, refl, sym, ap, arith, unsigned_abs}
+use Rattle.std.specs.Prelude.{◌^◌, codes, max}
+use Rattle.std.specs.Fmt.{decimal, signed_decimal}
+use Rattle.std.proofs.lemmas.List.{length-map}
+use Rattle.qm_math.proofs.Lists.{cons-rest}
 use Rattle.qm_model.specs.declared.range.Range.{Range}
 use Rattle.qm_model.specs.declared.row_id.RowId.{RowId}
 use Rattle.qm_model.specs.declared.row_id.RowId.TheVariants as id
 use Rattle.qm_trees.specs.declared.combination.Entry.{Entry}
 use Rattle.qm_trees.specs.Entries.{Combination}
 use Rattle.qm_text.specs.Numbers.{number_word}
-use Rattle.qm_certfile.specs.Lines.{Word, line_text}
+use Rattle.qm_certfile.specs.Lines.{Word, line_text, text_of}
 use Rattle.qm_certfile.specs.Numbers.{greatest, greatest_of_entry, greatest_of_fraction, number_of_row}
 use Rattle.qm_certfile.specs.Styles.{first_style, numbered}
-use Rattle.qm_certfile.specs.TreeLines.{close_line, entry_word, objective_words}
-use Rattle.qm_certfile.proofs.NumberWords.{AreVisible, Lacks, apart, decimal_same, later_bytes, lacks_decimal, not_empty, number_same, signed_same, split_at_first, visible_append, visible_decimal, visible_number, visible_signed, visible_word}
-use Rattle.qm_certfile.proofs.LineSplits.{AreWords, Spells, first_line, same_words, visible_words, word_same, words_append, words_behind}
+use Rattle.qm_certfile.specs.TreeLines.{Lines, close_line, entry_word, joined, objective_words}
+use Rattle.qm_certfile.proofs.NumberWords.{AreVisible, Lacks, apart, decimal_same, lacks_decimal, not_empty, number_same, signed_same, split_at_first, visible_append, visible_decimal, visible_number, visible_signed, visible_word}
+use Rattle.qm_certfile.proofs.LineSplits.{AreWords, IsTold, Spells, first_line, first_of_line, parts_told, same_words, visible_words, word_same, words_append, words_behind}
 
 pub wholes_spell : Spells signed_decimal unsigned_abs
 wholes_spell = record { visible = visible_signed; same = signed_same }
@@ -37,6 +39,28 @@ range_told r s b c x y h k l m e =
     let high = signed_same r.high s.high k m (word_same 2 line.0) in
     (λ i. record { low = low i; high = high i }, line.1)
 
+-- ---- counts of parts
+
+-- a line that ends with how many parts follow, and the parts
+pub count_told : (A : Type 0) (lines : A → Lines) (size : A → ℕ) (word : Word) (ps : List ((a : A) × IsTold A lines size a)) (qs : List A) (place : ℕ) (x y : List ℕ) → AreVisible word
+    → max (length (map size (map (λ e. e.0) ps))) (greatest (map size (map (λ e. e.0) ps))) < 10 ^ 64 → max (length (map size qs)) (greatest (map size qs)) < 10 ^ 64
+    → (line_text (word ∷ decimal (length (map lines (map (λ e. e.0) ps))) ∷ []) ++ text_of (joined (map lines (map (λ e. e.0) ps)) place)) ++ x
+    ≡ (line_text (word ∷ decimal (length (map lines qs)) ∷ []) ++ text_of (joined (map lines qs) place)) ++ y
+    → (map (λ e. e.0) ps ≡ qs) × (x ≡ y)
+count_told A lines size word ps qs place x y visible h k e =
+    let parts = map (λ (e : (a : A) × IsTold A lines size a). e.0) ps in
+    let some = length-map parts lines in
+    let others = length-map qs lines in
+    let some_numbers = length-map parts size in
+    let other_numbers = length-map qs size in
+    let known = length-map ps (λ (e : (a : A) × IsTold A lines size a). e.0) in
+    let m : length (map lines parts) < 10 ^ 64 = omega (arith, some, some_numbers) in
+    let n : length (map lines qs) < 10 ^ 64 = omega (arith, others, other_numbers) in
+    let line = first_line word word (decimal (length (map lines parts)) ∷ []) (decimal (length (map lines qs)) ∷ []) (text_of (joined (map lines parts) place)) (text_of (joined (map lines qs) place)) x y
+    (visible, (visible_decimal (length (map lines parts)) m, tt)) (visible, (visible_decimal (length (map lines qs)) n, tt)) e in
+    let count = decimal_same (length (map lines parts)) (length (map lines qs)) m n (word_same 1 line.0) in
+    parts_told A lines size ps qs place x y (omega (arith, count, some, others, known)) (omega arith) (omega arith) line.1
+
 -- ---- rows
 
 visible_row : (r : RowId) → number_of_row r < 10 ^ 64 → AreVisible (numbered r)
@@ -50,15 +74,15 @@ lacks_row (id.Uncertain n) h = (λ e. omega arith, lacks_decimal 61 (λ c p q e.
 lacks_row (id.Cut n) h = (λ e. omega arith, lacks_decimal 61 (λ c p q e. omega arith) (n + 1) h)
 
 row_same : (r s : RowId) → number_of_row r < 10 ^ 64 → number_of_row s < 10 ^ 64 → numbered r ≡ numbered s → r ≡ s
-row_same (id.Row m) (id.Row n) p q e = ap id.Row (omega (arith, decimal_same (m + 1) (n + 1) p q (later_bytes e)))
+row_same (id.Row m) (id.Row n) p q e = ap id.Row (omega (arith, decimal_same (m + 1) (n + 1) p q (cons-rest _ _ _ _ e)))
 row_same (id.Row m) (id.Uncertain n) p q e = absurd (apart 114 117 tt e)
 row_same (id.Row m) (id.Cut n) p q e = absurd (apart 114 99 tt e)
 row_same (id.Uncertain m) (id.Row n) p q e = absurd (apart 117 114 tt e)
-row_same (id.Uncertain m) (id.Uncertain n) p q e = ap id.Uncertain (omega (arith, decimal_same (m + 1) (n + 1) p q (later_bytes e)))
+row_same (id.Uncertain m) (id.Uncertain n) p q e = ap id.Uncertain (omega (arith, decimal_same (m + 1) (n + 1) p q (cons-rest _ _ _ _ e)))
 row_same (id.Uncertain m) (id.Cut n) p q e = absurd (apart 117 99 tt e)
 row_same (id.Cut m) (id.Row n) p q e = absurd (apart 99 114 tt e)
 row_same (id.Cut m) (id.Uncertain n) p q e = absurd (apart 99 117 tt e)
-row_same (id.Cut m) (id.Cut n) p q e = ap id.Cut (omega (arith, decimal_same (m + 1) (n + 1) p q (later_bytes e)))
+row_same (id.Cut m) (id.Cut n) p q e = ap id.Cut (omega (arith, decimal_same (m + 1) (n + 1) p q (cons-rest _ _ _ _ e)))
 
 -- no row is named by the word for the objective
 no_row : (r : RowId) (bs : List ℕ) → numbered r ++ bs ≡ codes "o" → ⊥
@@ -90,7 +114,7 @@ visible_objective : (o : Bool) → AreWords (objective_words o)
 visible_objective true = (visible_word (codes "o") tt, tt)
 visible_objective false = tt
 
-pub visible_close : (c : Combination) → greatest (map greatest_of_entry c.entries) < 10 ^ 64 → AreWords (close_line first_style c)
+visible_close : (c : Combination) → greatest (map greatest_of_entry c.entries) < 10 ^ 64 → AreWords (close_line first_style c)
 visible_close c h = (
   visible_word (codes "close") tt,
   words_append (objective_words c.objective) (entry_words c.entries) (visible_objective c.objective) (visible_words (entry_word first_style) greatest_of_entry entries_spell c.entries h),
@@ -107,10 +131,22 @@ by_words true false es fs h k e = absurd (no_objective es fs e)
 by_words false true es fs h k e = absurd (no_objective fs es (sym e))
 by_words false false es fs h k e = (refl, same_words (entry_word first_style) greatest_of_entry entries_spell es fs h k e)
 
-pub close_same : (c d : Combination) → greatest (map greatest_of_entry c.entries) < 10 ^ 64 → greatest (map greatest_of_entry d.entries) < 10 ^ 64
+close_same : (c d : Combination) → greatest (map greatest_of_entry c.entries) < 10 ^ 64 → greatest (map greatest_of_entry d.entries) < 10 ^ 64
     → close_line first_style c ≡ close_line first_style d → c ≡ d
 close_same c d h k e =
     let both = by_words c.objective d.objective c.entries d.entries h k (words_behind 1 e) in
     let objective = both.0 in
     let entries = both.1 in
     λ i. record { objective = objective i; entries = entries i }
+
+-- how a line that closes begins
+pub close_first : (c : Combination) (x : List ℕ) → get_or (text_of (close_line first_style c ∷ []) ++ x) 0 0 ≡ 99
+close_first c x = first_of_line 99 (codes "lose") (objective_words c.objective ++ entry_words c.entries) [] x
+
+-- a line that closes tells the combination, and where it ends
+pub close_told : (c d : Combination) (x y : List ℕ) → greatest (map greatest_of_entry c.entries) < 10 ^ 64 → greatest (map greatest_of_entry d.entries) < 10 ^ 64
+    → text_of (close_line first_style c ∷ []) ++ x ≡ text_of (close_line first_style d ∷ []) ++ y → (c ≡ d) × (x ≡ y)
+close_told c d x y h k e =
+    let line = first_line (codes "close") (codes "close") (objective_words c.objective ++ entry_words c.entries) (objective_words d.objective ++ entry_words d.entries) [] [] x y
+    (visible_close c h) (visible_close d k) e in
+    (close_same c d h k line.0, line.1)

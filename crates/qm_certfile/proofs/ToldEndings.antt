@@ -1,19 +1,17 @@
 -- What a certificate that passes tells of its problem.
-use Rattle.std.proofs.Common.{◌≡◌, refl, subst, List, [], ◌∷◌, ℤ, All, arith}
-use Rattle.std.specs.Prelude.{drop}
+use Rattle.std.proofs.Common.{refl, subst, List, [], ℤ, arith}
 use Rattle.std.proofs.lemmas.List.{take-append-drop}
 use Rattle.qm_model.specs.declared.game.Problem.{Problem}
-use Rattle.qm_model.specs.declared.row.Row.{Row}
-use Rattle.qm_model.specs.declared.variable.Var.{Var}
 use Rattle.qm_model.specs.Boxes.{whole_box_of}
 use Rattle.qm_model.specs.Endings.{HasEnding}
 use Rattle.qm_model.specs.Goals.{Goal, Any, Above, IsProper}
-use Rattle.qm_model.specs.Legal.{AgreesWithPlay, IsLegal, universal_part}
+use Rattle.qm_model.specs.Legal.{IsLegal}
 use Rattle.qm_model.specs.Plays.{IsPlay, whole_vars}
 use Rattle.qm_model.specs.Points.{continuous_vars}
 use Rattle.qm_model.specs.Sound.{IsSound}
 use Rattle.qm_model.specs.Wins.{Wins}
 use Rattle.qm_model.proofs.Legality.{legal_of_play}
+use Rattle.qm_model.proofs.LegalMoves.{universal_part-none}
 use Rattle.qm_trees.specs.declared.refutation.Refute.{Refute}
 use Rattle.qm_trees.specs.Cuts.{HoldCuts}
 use Rattle.qm_trees.specs.Picks.{Fit}
@@ -25,13 +23,8 @@ use Rattle.qm_certfile.specs.declared.certificate.Certificate.{Certificate}
 use Rattle.qm_certfile.specs.declared.certificate.Certificate.TheVariants.{Optimal, Infeasible, Empty}
 use Rattle.qm_certfile.specs.Passes.{AnswersPlay, Passes, RefutesWhole, ending_of}
 
--- where there is a play, the empty prefix is legal
-nothing_universal : (xs : List Var) → universal_part xs [] ≡ []
-nothing_universal [] = refl
-nothing_universal (x ∷ xs) = refl
-
 empty_is_legal : (P : Problem) (us : List ℤ) → IsPlay P us → IsLegal P []
-empty_is_legal P us play = legal_of_play P [] (record { rest = us; is_play = rw (nothing_universal (whole_vars P)) play })
+empty_is_legal P us play = legal_of_play P [] (record { rest = us; is_play = rw (universal_part-none (whole_vars P)) play })
 
 no_cuts : (P : Problem) → HoldCuts P []
 no_cuts P = λ prefix y is_prefix complete legal meets k d h. absurd (omega arith)

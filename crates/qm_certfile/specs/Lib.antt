@@ -3,5 +3,5 @@ pub mod Styles
 pub mod TreeLines
 pub mod CertificateLines
 pub mod Passes
-pub mod Pieces
+pub mod LineSteps
 pub mod Numbers

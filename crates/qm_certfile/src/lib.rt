@@ -1,4 +1,12 @@
 //! Certificates: how a game ends, with a policy and a refutation that show it, and their text.
+//!
+//! `write` takes a game and a certificate and gives its text in version 1 (`CertificateLines`): the claim, a universal
+//! play, and the trees, a line for each node in the order in which they are judged (`TreeLines`, `Lines`); how rows and
+//! variables are named is the version's style (`Styles`). Nothing is lost:
+//! `different_certificates_have_different_texts`, where no number has more than 64 digits (`Numbers`).
+//!
+//! A certificate that passes (`Passes`) tells how its problem ends, and its policy reaches the value on every universal play:
+//! `a_passing_certificate_tells_the_ending`.
 #![tactic(auto)]
 
 mod certificate;

@@ -2,7 +2,7 @@ ghost use Rattle.std.specs.Prelude.{◌≡◌, ◌++◌, ◌∷◌, [], ◌+◌,
 ghost use Rattle.std.specs.Fmt.{decimal, signed_decimal};
 ghost use Rattle.qm_text.specs.Numbers.{number_word};
 ghost use Rattle.qm_certfile.specs.Lines.{line_text};
-ghost use Rattle.qm_certfile.specs.Pieces.{spaced};
+ghost use Rattle.qm_certfile.specs.LineSteps.{spaced};
 ghost use Rattle.qm_certfile.specs.Styles.{first_style, numbered};
 ghost use Rattle.qm_certfile.specs.TreeLines.{close_line, entry_word, objective_words};
 

@@ -1,66 +1,33 @@
 // Certificates of the problem "maximise x1 + 2 x3, where x1 + x2 + x3 <= 2", of three variables from 0 to 1, the second
 // of which the universal player sets. Its value is 2: choose 0, answer each value, choose 1. Nothing above 2 is reached:
 // over x1 = 0 the objective's bounds say so, and over x1 = 1 the universal player picks 1.
-ghost use Rattle.std.specs.Prelude.{◌≡◌, ◌∷◌, [], IfOk, pos, true};
-
 use super::*;
 use qm_frac::Frac;
 use qm_io::{List, Memory};
 use qm_model::{Game, Player, Problem, Range, Row, RowId, Sense, Term, Terms, Var};
 use qm_trees::{Below, Combo, Empty, EmptyPart, Entry, Policy, PolicyPart, Refute, RefutePart};
-use smallvec::SmallVec;
 use sqlite_items::{Boxed, Items};
 use std::alloc::{AllocError, Global};
 use std::test::Fail;
 
-fn binary(alloc: Global, player: Player) -> Var
-    ensures { result ≡ record { name = []; player = player; whole = true; low = pos 0; high = pos 1 } }
-{
-    Var {
-        name: List::new(alloc),
-        player,
-        whole: true,
-        low: 0,
-        high: 1,
-    }
-}
-
-fn all_terms(alloc: Global) -> Result<Terms, Memory>
-    ensures { IfOk result (λ terms. terms ≡ record { var = 0; coef = pos 1 } ∷ record { var = 1; coef = pos 1 } ∷ record { var = 2; coef = pos 1 } ∷ []) }
-{
-    let mut terms = SmallVec::new(alloc);
-    terms.push(Term { var: 0, coef: 1 })?;
-    terms.push(Term { var: 1, coef: 1 })?;
-    terms.push(Term { var: 2, coef: 1 })?;
-    Ok(Terms::new(terms))
-}
-
-fn objective(alloc: Global) -> Result<Terms, Memory>
-    ensures { IfOk result (λ terms. terms ≡ record { var = 0; coef = pos 1 } ∷ record { var = 2; coef = pos 2 } ∷ []) }
-{
-    let mut terms = SmallVec::new(alloc);
-    terms.push(Term { var: 0, coef: 1 })?;
-    terms.push(Term { var: 2, coef: 2 })?;
-    Ok(Terms::new(terms))
-}
-
 fn game(alloc: Global, sense: Sense) -> Result<Game, Memory> {
     let mut vars = List::new(alloc);
-    vars.push(binary(alloc, Player::Exists))?;
-    vars.push(binary(alloc, Player::All))?;
-    vars.push(binary(alloc, Player::Exists))?;
+    vars.push(Var::binary(List::new(alloc), Player::Exists))?;
+    vars.push(Var::binary(List::new(alloc), Player::All))?;
+    vars.push(Var::binary(List::new(alloc), Player::Exists))?;
     let mut rows = List::new(alloc);
-    rows.push(Row {
-        terms: all_terms(alloc)?,
-        right: 2,
-    })?;
+    rows.push(Row::of(
+        alloc,
+        &[Term::new(0, 1), Term::new(1, 1), Term::new(2, 1)],
+        2,
+    )?)?;
     Ok(Game::new(Problem {
         sense,
         vars,
         wholes: 3,
         rows,
         urows: List::new(alloc),
-        terms: objective(alloc)?,
+        terms: Terms::of(alloc, &[Term::new(0, 1), Term::new(2, 2)])?,
         constant: 0,
         scale: 1,
     }))

@@ -1,23 +1,19 @@
 -- What ordered terms give a variable.
-use Rattle.std.proofs.Common.{◌≡◌, ℕ, zero, suc, ◌+◌, ◌<◌, ◌≤◌, List, [], ◌∷◌, length, get_or, drop, arith, subst, pos, ◌+ℤ◌}
+use Rattle.std.proofs.Common.{◌≡◌, ℕ, zero, suc, ◌+◌, ◌<◌, List, [], ◌∷◌, length, get_or, drop, arith, subst, pos, ◌+ℤ◌}
 use Rattle.std.proofs.lemmas.Int.{ints}
 use Rattle.std.proofs.lemmas.Bool.Decides.{nat_tests}
 use Rattle.std.proofs.lemmas.List.{at_drop_more, drop_more}
 use Rattle.qm_model.specs.declared.row.Term.{Term}
 use Rattle.qm_model.specs.Linear.{IsOrdered, IsOrderedFrom, coefficient}
-use Rattle.qm_model.proofs.Forms.{coefficient-later, coefficient-other}
+use Rattle.qm_model.proofs.Forms.{coefficient-later, coefficient-other, IsOrderedFrom-weaker}
 
 abbrev pub no_term : Term
 no_term = record { var = 0; coef = pos 0 }
 
-ordered_weaker : (ts : List Term) (least more : ℕ) → least ≤ more → IsOrderedFrom more ts → IsOrderedFrom least ts
-ordered_weaker [] least more h order = tt
-ordered_weaker (t ∷ ts) least more h order = (omega (arith, order.0), order.1, order.2)
-
 ordered_drop : (ts : List Term) (least i : ℕ) → IsOrderedFrom least ts → IsOrderedFrom least (drop i ts)
 ordered_drop ts least zero order = order
 ordered_drop [] least (suc i) order = tt
-ordered_drop (t ∷ ts) least (suc i) order = ordered_weaker (drop i ts) least (suc t.var) (omega (arith, order.0)) (ordered_drop ts (suc t.var) i order.2)
+ordered_drop (t ∷ ts) least (suc i) order = IsOrderedFrom-weaker (drop i ts) least (suc t.var) (omega (arith, order.0)) (ordered_drop ts (suc t.var) i order.2)
 
 -- the first of ordered terms gives its variable all that it has
 coefficient_first : (t : Term) (ts : List Term) (var : ℕ) → IsOrdered (t ∷ ts) → t.var ≡ var → coefficient (t ∷ ts) var ≡ t.coef

@@ -1,7 +1,8 @@
 -- What the tests of empty trees go by.
-use Rattle.std.proofs.Common.{◌≡◌, ℕ, zero, suc, ◌+◌, ◌<◌, Bool, true, false, List, [], ◌∷◌, length, drop, get_or, refl, sym, ap, ◌∙◌, arith, Ok, Err}
+use Rattle.std.proofs.Common.{◌≡◌, ℕ, zero, suc, ◌+◌, ◌-◌, ◌<◌, ◌≤◌, Bool, true, false, List, [], ◌∷◌, length, drop, refl, sym, ap, ◌∙◌, arith, Ok, Err}
 use Rattle.std.specs.Prelude.{◌==◌}
 use Rattle.std.proofs.lemmas.Bool.Decides.{Decides-eqb}
+use Rattle.std.proofs.lemmas.List.{drop-drop, length-drop}
 use Rattle.qm_frac.specs.declared.leaves.Leaves.{Leaves}
 use Rattle.qm_model.specs.declared.range.Range.{Range}
 use Rattle.qm_model.specs.declared.variable.Var.{Var}
@@ -20,7 +21,7 @@ use Rattle.qm_trees.specs.Verdicts.{Broken, answer_of}
 use Rattle.qm_trees.specs.EmptyJudgement.{all_uncertain, closes_empty, contradicts, is_void, judge_close, judge_empty, some_universal_empty}
 use Rattle.qm_trees.proofs.Multipliers.{entries_all_positive}
 use Rattle.qm_cover.proofs.PartSteps.{answer_of-line}
-use Rattle.qm_combo.specs.Splits.{judge_here}
+use Rattle.qm_combo.specs.Splits.{judge_split}
 
 -- ---- closing
 
@@ -42,7 +43,7 @@ module _ (P : Problem) (bx : List Range) (combo : Combination) (entries : AreEnt
 
 -- ---- nodes
 
-splits : (var : ℕ) (parts : List EmptyPart) → out-Empty (Split var parts) ≡ node.Split var parts
+pub splits : (var : ℕ) (parts : List EmptyPart) → out-Empty (Split var parts) ≡ node.Split var parts
 splits var parts = ap out-Empty (sym (rolls-Split var parts)) ∙ out-roll-Empty (node.Split var parts)
 
 closes : (combo : Combination) → out-Empty (Close combo) ≡ node.Close combo
@@ -74,24 +75,26 @@ module _ (P : Problem) (bx : List Range) (tree : Empty) (var : ℕ) (parts : Lis
       rw (layer, not_same var depth here) later
 
   -- a split of one of them
-  somewhere : (rest : List Var) (k depth : ℕ) (x : Var) → k < length rest → x ≡ get_or rest k x → var ≡ depth + k → judge_empty P rest depth bx tree ≡ judge_here P x (drop (suc k) rest) var bx parts
-  somewhere [] k depth x below is at = absurd (omega (arith, below))
-  somewhere (y ∷ rest) zero depth x below is at =
+  somewhere : (rest : List Var) (k depth : ℕ) → k < length rest → var ≡ depth + k → judge_empty P rest depth bx tree ≡ judge_split P (drop k rest) var bx parts
+  somewhere [] k depth below at = absurd (omega (arith, below))
+  somewhere (x ∷ rest) zero depth below at =
       let same : var ≡ depth = omega (arith, at) in
       let found : (var == depth) ≡ true = (Decides-eqb var depth).1 same in
-      rw (layer, found, is, same) refl
-  somewhere (y ∷ rest) (suc k) depth x below is at =
+      rw (layer, found, same) refl
+  somewhere (x ∷ rest) (suc k) depth below at =
       let here : var ≡ depth → ⊥ = λ e. omega (arith, at, e) in
-      let later = somewhere rest k (depth + 1) x (omega (arith, below)) is (omega (arith, at)) in
+      let later = somewhere rest k (depth + 1) (omega (arith, below)) (omega (arith, at)) in
       rw (layer, not_same var depth here) later
 
 pub at_none : (P : Problem) (rest : List Var) (depth : ℕ) (bx : List Range) (tree : Empty) (var : ℕ) (parts : List EmptyPart) → tree ≡ Split var parts
     → ((k : ℕ) → k < length rest → var ≡ depth + k → ⊥) → Ok false ≡ answer_of (judge_empty P rest depth bx tree)
 at_none P rest depth bx tree var parts is other = sym (ap answer_of (nowhere P bx tree var parts (ap out-Empty is ∙ splits var parts) rest depth other))
 
-pub at_split : (P : Problem) (rest : List Var) (k depth : ℕ) (bx : List Range) (tree : Empty) (var : ℕ) (parts : List EmptyPart) (x : Var) → tree ≡ Split var parts
-    → k < length rest → x ≡ get_or rest k x → var ≡ depth + k → answer_of (judge_here P x (drop (k + 1) rest) var bx parts) ≡ answer_of (judge_empty P rest depth bx tree)
-at_split P rest k depth bx tree var parts x is below at where_is =
-    let next : k + 1 ≡ suc k = omega arith in
-    ap (λ n. answer_of (judge_here P x (drop n rest) var bx parts)) next
-    ∙ sym (ap answer_of (somewhere P bx tree var parts (ap out-Empty is ∙ splits var parts) rest k depth x below at where_is))
+pub at_split : (P : Problem) (rest there : List Var) (depth : ℕ) (bx : List Range) (tree : Empty) (var : ℕ) (parts : List EmptyPart) → tree ≡ Split var parts
+    → rest ≡ drop depth (whole_vars P) → there ≡ drop var (whole_vars P) → depth ≤ var → var < length (whole_vars P)
+    → answer_of (judge_split P there var bx parts) ≡ answer_of (judge_empty P rest depth bx tree)
+at_split P rest there depth bx tree var parts is from_depth from_var reached below =
+    let up : depth + (var - depth) ≡ var = omega arith in
+    let later : drop (var - depth) rest ≡ there = ap (drop (var - depth)) from_depth ∙ drop-drop (var - depth) depth (whole_vars P) ∙ ap (λ n. drop n (whole_vars P)) up ∙ sym from_var in
+    ap (λ xs. answer_of (judge_split P xs var bx parts)) (sym later)
+    ∙ sym (ap answer_of (somewhere P bx tree var parts (ap out-Empty is ∙ splits var parts) rest (var - depth) depth (omega (arith, ap length from_depth, length-drop depth (whole_vars P))) (omega arith)))

@@ -4,6 +4,7 @@ use Rattle.std.proofs.Common.{◌≡◌, ◌∙◌, refl, sym, ap, ℕ, suc, ◌
 use Rattle.std.specs.Prelude.{Some, if◌then◌else◌, pos}
 use Rattle.std.specs.Ordering.{int_eq}
 use Rattle.std.proofs.lemmas.List.{at_drop_more}
+use Rattle.std.proofs.lemmas.Bool.{false_from_ne_true}
 use Rattle.qm_math.specs.Fraction.{Fraction, whole}
 use Rattle.qm_frac.specs.Checked.{Checked, and_then, added, multiplied}
 use Rattle.qm_model.specs.declared.row.Row.{Row}
@@ -69,14 +70,10 @@ variables_leave P objective ws bx i d s all leaves h e before =
     ∙ sym (variables_at P objective ws bx i d s h)
     ∙ before
 
-not_true : (b : Bool) → (b ≡ true → ⊥) → b ≡ false
-not_true true h = absurd (h refl)
-not_true false h = refl
-
 -- a coefficient that isn't 0 times its better end, and the sum
 pub least_more : (c : Fraction) (r : Range) (s w p : Fraction) → (c.num ≡ pos 0 → ⊥) → w ≡ whole (least_end_by c.num r) → Ok p ≡ multiplied c w
     → added s p ≡ add_least c r s
 least_more c r s w p some is e =
-    let none : int_eq c.num (pos 0) ≡ false = not_true (int_eq c.num (pos 0)) (λ t. some ((Decides-int_eq c.num (pos 0)).0 t)) in
+    let none : int_eq c.num (pos 0) ≡ false = false_from_ne_true (int_eq c.num (pos 0)) (λ t. some ((Decides-int_eq c.num (pos 0)).0 t)) in
     let times : multiplied c (whole (least_end_by c.num r)) ≡ Ok p = ap (λ (x : Fraction). multiplied c x) (sym is) ∙ sym e in
     rw (none, times) refl

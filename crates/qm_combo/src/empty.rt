@@ -1,20 +1,20 @@
-ghost use Rattle.std.specs.Prelude.{◌≡◌, ◌+◌, ◌<◌, ℤ, List, length, slice_set, true, Ok};
+ghost use Rattle.std.specs.Prelude.{◌≡◌, ◌+◌, ◌<◌, ℤ, List, drop, length, slice_set, true, Ok};
 ghost use Rattle.qm_model.specs.Boxes.{IsBox, IsInside};
 ghost use Rattle.qm_model.specs.Plays.{IsPlay, whole_vars};
+ghost use Rattle.qm_model.specs.Ranges.{range_at};
 ghost use Rattle.qm_trees.specs.EmptyJudgement.{judge_empty, range_of};
 ghost use Rattle.qm_trees.specs.EmptyRight.{IsRightEmpty};
 ghost use Rattle.qm_trees.specs.Picks.{Fit};
-ghost use Rattle.qm_trees.specs.Ranges.{judge_each, judge_parts, range_at};
+ghost use Rattle.qm_trees.specs.Ranges.{judge_each};
 ghost use Rattle.qm_trees.specs.Verdicts.{answer_of};
-ghost use Rattle.qm_cover.specs.Places.{IsBoxPlace};
 ghost use Rattle.qm_cover.specs.Steps.{first_of};
-ghost use Rattle.qm_combo.specs.Splits.{judge_here, judge_part};
+ghost use Rattle.qm_combo.specs.Splits.{judge_part, judge_split};
 
 use crate::void::closes_empty;
-use qm_cover::{after, count_is_right, follows, is_for_all, is_last, range_in, start};
+use qm_cover::{count_is_right, follows, is_last};
 use qm_frac::Leaves;
-use qm_game::{Bx, Range, Var};
-use qm_model::Game;
+use qm_game::{Bx, Place, Range};
+use qm_model::{Game, after, is_for_all, start};
 use qm_trees::{Empty, EmptyPart};
 
 /// Whether the tree shows that no universal play has its values in the box: each rule is met, in the order of the
@@ -26,109 +26,63 @@ pub fn test_empty(game: &Game, bx: &mut Bx, tree: &Empty) -> Result<bool, Leaves
     ensures none { result ≡ Ok true → (us : List ℤ) → IsPlay game.now us → Fit (whole_vars game.now) bx.old us → ⊥ }
     ensures same { bx.new ≡ bx.old }
 {
-    let problem = game.problem();
-    let wholes = &problem.vars.as_slice()[..problem.wholes as usize];
-    test_from(game, wholes, 0, bx, tree)
+    // that the game is sound
+    let _problem = game.problem();
+    test_from(Place::at(game, 0), bx, tree)
 }
 
-/// The same from a depth on, where these variables may be split.
+/// The same from a place on, where the variables that are still to be set may be split.
 #[cycle(test_empty)]
-fn test_from(
-    game: &Game,
-    rest: &[Var],
-    depth: usize,
-    bx: &mut Bx,
-    tree: &Empty,
-) -> Result<bool, Leaves>
-    requires { IsBoxPlace game.now rest.now depth bx.old }
-    ensures answer { result ≡ answer_of (judge_empty game.now rest.now depth bx.old tree.now) }
+fn test_from(here: Place<'_>, bx: &mut Bx, tree: &Empty) -> Result<bool, Leaves>
+    requires { IsBox here.game.now.vars bx.old }
+    ensures answer { result ≡ answer_of (judge_empty here.entry.game.now here.entry.rest.now here.entry.depth bx.old tree.now) }
     ensures same { bx.new ≡ bx.old }
 {
     match tree {
-        Empty::Close(combo) => closes_empty(game, bx, combo),
+        Empty::Close(combo) => closes_empty(here.game, bx, combo),
         Empty::Split { var, parts } => {
             let at = *var as usize;
-            if at < depth || at - depth >= rest.len() {
+            if at < here.depth || at >= here.game.problem().wholes as usize {
                 return Ok(false);
             }
-            let here = at - depth;
-            test_here(
-                game,
-                &rest[here],
-                &rest[here + 1..],
-                at,
-                bx,
-                parts.as_slice(),
-            )
+            test_split(Place::at(here.game, at), bx, parts.as_slice())
         }
     }
 }
 
-/// The same below the variable at the depth, once it has this range.
+/// Whether the universal player sets the next variable, and the parts cover its range and pass.
 #[cycle(test_empty)]
-fn test_below(
-    game: &Game,
-    later: &[Var],
-    depth: usize,
-    bx: &mut Bx,
-    range: Range,
-    tree: &Empty,
-) -> Result<bool, Leaves>
-    requires place { IsBoxPlace game.now later.now (depth + 1) bx.old }
-    requires depth { depth < length bx.old }
-    requires inside { IsInside range (range_at bx.old depth) }
-    ensures answer { result ≡ answer_of (judge_empty game.now later.now (depth + 1) (slice_set bx.old depth range) tree.now) }
+fn test_split(here: Place<'_>, bx: &mut Bx, parts: &[EmptyPart]) -> Result<bool, Leaves>
+    requires bx { IsBox here.game.now.vars bx.old }
+    requires some { 0 < length here.rest.now }
+    ensures answer { result ≡ answer_of (judge_split here.entry.game.now here.entry.rest.now here.entry.depth bx.old parts.now) }
     ensures same { bx.new ≡ bx.old }
 {
-    let before = range_in(bx.as_slice(), depth);
-    bx.set(depth, range);
-    let answer = test_from(game, later, depth + 1, bx, tree);
-    bx.set(depth, before);
-    answer
-}
-
-/// Whether the part's range follows on, and the tree below it passes.
-#[cycle(test_empty)]
-fn test_part(
-    game: &Game,
-    later: &[Var],
-    depth: usize,
-    bx: &mut Bx,
-    follows: bool,
-    part: &EmptyPart,
-) -> Result<bool, Leaves>
-    requires place { IsBoxPlace game.now later.now (depth + 1) bx.old }
-    requires depth { depth < length bx.old }
-    requires inside { follows ≡ true → IsInside (range_of part.now) (range_at bx.old depth) }
-    ensures answer { result ≡ first_of (Ok follows) (answer_of (judge_part game.now later.now depth bx.old part.now)) }
-    ensures same { bx.new ≡ bx.old }
-{
-    if !follows {
+    let covered = here.range(bx);
+    if !is_for_all(&here.rest[0]) || !count_is_right(covered, parts.len()) {
         return Ok(false);
     }
-    test_below(game, later, depth, bx, part.range, &part.below)
+    test_each(here, bx, covered, parts)
 }
 
 /// Whether the parts' ranges follow on from the low to the high end, and the tree below each passes.
 #[cycle(test_empty)]
 fn test_each(
-    game: &Game,
-    later: &[Var],
-    depth: usize,
+    here: Place<'_>,
     bx: &mut Bx,
     covered: Range,
     parts: &[EmptyPart],
 ) -> Result<bool, Leaves>
-    requires place { IsBoxPlace game.now later.now (depth + 1) bx.old }
-    requires depth { depth < length bx.old }
-    requires covered { covered ≡ range_at bx.old depth }
-    ensures answer { result ≡ answer_of (judge_each range_of (judge_part game.now later.now depth bx.old) covered.low covered.high parts.now) }
+    requires bx { IsBox here.game.now.vars bx.old }
+    requires some { 0 < length here.rest.now }
+    requires covered { covered ≡ range_at bx.old here.depth }
+    ensures answer { result ≡ answer_of (judge_each range_of (judge_part here.entry.game.now here.entry.rest.now here.entry.depth bx.old) covered.low covered.high parts.now) }
     ensures same { bx.new ≡ bx.old }
 {
     let mut next = start(covered);
     for (at, part) in parts.iter().enumerate() {
         let follows = follows(next, covered, is_last(parts, at), part.range);
-        if !test_part(game, later, depth, bx, follows, part)? {
+        if !test_part(here, bx, follows, part)? {
             return Ok(false);
         }
         next = after(part.range);
@@ -136,24 +90,34 @@ fn test_each(
     Ok(true)
 }
 
-/// Whether the universal player sets the variable, and the parts cover its range and pass.
+/// Whether the part's range follows on, and the tree below it passes.
 #[cycle(test_empty)]
-fn test_here(
-    game: &Game,
-    var: &Var,
-    later: &[Var],
-    depth: usize,
-    bx: &mut Bx,
-    parts: &[EmptyPart],
-) -> Result<bool, Leaves>
-    requires place { IsBoxPlace game.now later.now (depth + 1) bx.old }
-    requires depth { depth < length bx.old }
-    ensures answer { result ≡ answer_of (judge_here game.now var.now later.now depth bx.old parts.now) }
+fn test_part(here: Place<'_>, bx: &mut Bx, follows: bool, part: &EmptyPart) -> Result<bool, Leaves>
+    requires bx { IsBox here.game.now.vars bx.old }
+    requires some { 0 < length here.rest.now }
+    requires inside { follows ≡ true → IsInside (range_of part.now) (range_at bx.old here.depth) }
+    ensures answer { result ≡ first_of (Ok follows) (answer_of (judge_part here.entry.game.now here.entry.rest.now here.entry.depth bx.old part.now)) }
     ensures same { bx.new ≡ bx.old }
 {
-    let covered = range_in(bx.as_slice(), depth);
-    if !is_for_all(var) || !count_is_right(covered, parts.len()) {
+    if !follows {
         return Ok(false);
     }
-    test_each(game, later, depth, bx, covered, parts)
+    test_below(here, bx, part.range, &part.below)
+}
+
+/// The same behind the next variable, once it has this range.
+#[cycle(test_empty)]
+#[tactic(auto, using(qm_cover::proofs::BoxPlaces::box_narrowed))]
+fn test_below(here: Place<'_>, bx: &mut Bx, range: Range, tree: &Empty) -> Result<bool, Leaves>
+    requires bx { IsBox here.game.now.vars bx.old }
+    requires some { 0 < length here.rest.now }
+    requires inside { IsInside range (range_at bx.old here.depth) }
+    ensures answer { result ≡ answer_of (judge_empty here.entry.game.now (drop 1 here.entry.rest.now) (here.entry.depth + 1) (slice_set bx.old here.entry.depth range) tree.now) }
+    ensures same { bx.new ≡ bx.old }
+{
+    let before = here.range(bx);
+    here.put(bx, range);
+    let answer = test_from(here.behind(), bx, tree);
+    here.put(bx, before);
+    answer
 }

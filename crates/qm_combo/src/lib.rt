@@ -14,6 +14,3 @@ pub use closing::{closes, value};
 pub use empty::test_empty;
 pub use qm_game::Goal;
 pub use qm_trees::{Combo, ComboValue, Empty, EmptyPart, Entry};
-
-#[cfg(test)]
-mod tests;

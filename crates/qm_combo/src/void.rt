@@ -7,10 +7,9 @@ ghost use Rattle.qm_trees.specs.EmptyJudgement.{all_uncertain, is_uncertain, is_
 ghost use Rattle.qm_trees.specs.Verdicts.{answer_of};
 
 use crate::closing::value;
-use qm_cover::is_for_all;
 use qm_frac::Leaves;
 use qm_game::{Bx, Range, Var};
-use qm_model::{Game, Problem, RowId};
+use qm_model::{Game, Problem, RowId, is_for_all};
 use qm_trees::{Combo, ComboValue, Entry};
 
 /// Whether an uncertainty row is named that is there.

@@ -7,13 +7,14 @@ use Rattle.std.proofs.lemmas.Int.{ints}
 use Rattle.std.proofs.lemmas.List.{drop-take}
 use Rattle.std.proofs.lemmas.Option.{get_or_from_slice_get}
 use Rattle.qm_math.specs.Ranges.{IsBetween}
+use Rattle.qm_math.proofs.WholeTests.{le_of_test, eq_of_test}
 use Rattle.qm_model.specs.declared.range.Range.{Range}
 use Rattle.qm_model.specs.declared.variable.Var.{Var}
 use Rattle.qm_model.specs.declared.game.Problem.{Problem}
-use Rattle.qm_model.specs.Boxes.{IsInside}
+use Rattle.qm_model.specs.Boxes.{IsBox, IsInside}
+use Rattle.qm_model.specs.Ranges.{range_at, single, is_in}
 use Rattle.qm_model.proofs.BoxLaws.{IsBox-set}
-use Rattle.qm_trees.specs.Ranges.{range_at, single, is_in, follows_on, same}
-use Rattle.qm_trees.proofs.Lines.{le_of_test}
+use Rattle.qm_trees.specs.Ranges.{follows_on, same}
 use Rattle.qm_trees.proofs.Moves.{between_of}
 use Rattle.qm_cover.proofs.Places.{next_place, same_place}
 use Rattle.qm_cover.specs.Places.{IsBoxPlace}
@@ -28,6 +29,11 @@ next_of P rest x later depth bx e place =
     let here = next_place P rest x later depth bx e place.place in
     record { below = here.below; next = record { place = here.next; box = place.box } }
 
+-- a range that is put inside another leaves a box of the game
+pub box_narrowed : (P : Problem) (bx : List Range) (depth : ℕ) (range : Range) → IsBox P.vars bx → IsInside range (range_at bx depth) → IsBox P.vars (set bx depth range)
+box_narrowed P bx depth range box inside =
+    IsBox-set P.vars bx depth range box (λ r e. subst (IsInside range) (get_or_from_slice_get bx depth r (single (pos 0)) e) inside)
+
 -- the variables from the depth on
 pub rest_of : (xs : List Var) (depth wholes : ℕ) → depth ≤ wholes → take (wholes - depth) (drop depth xs) ≡ drop depth (take wholes xs)
 rest_of xs depth wholes h =
@@ -39,7 +45,7 @@ pub narrowed : (P : Problem) (later : List Var) (depth : ℕ) (bx : List Range) 
     → IsBoxPlace P later (depth + 1) (set bx depth range)
 narrowed P later depth bx range inside place = record {
   place = same_place P later (depth + 1) depth bx range place.place;
-  box = IsBox-set P.vars bx depth range place.box (λ r e. subst (IsInside range) (get_or_from_slice_get bx depth r (single (pos 0)) e) inside);
+  box = box_narrowed P bx depth range place.box inside;
 }
 
 -- ---- ranges inside another
@@ -81,9 +87,6 @@ within next covered r reached begins some ends =
       };
       goes_on = grind (arith, ints);
     }
-
-eq_of_test : (a b : ℤ) → int_eq a b ≡ true → a ≡ b
-eq_of_test a b e = grind (arith, ints)
 
 pub following : (next : ℤ) (covered : Range) (last : Bool) (r : Range) → covered.low ≤ℤ next → follows_on next covered.high last r ≡ true → Following covered r
 following next covered last r reached e =

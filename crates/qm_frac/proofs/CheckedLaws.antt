@@ -1,15 +1,17 @@
 -- Where an operation has a value, that is the exact value, and it is in lowest terms and in range.
-use Rattle.std.proofs.Common.{◌≡◌, ℕ, zero, suc, ◌*◌, ◌<◌, ℤ, pos, negsuc, ◌+ℤ◌, ◌*ℤ◌, ◌≤ℤ◌, Bool, true, false, Result, Ok, Err, refl, sym, ap, ◌∙◌, subst, unsigned_abs, arith}
+use Rattle.std.proofs.Common.{◌≡◌, ℕ, zero, suc, ◌*◌, ◌<◌, ℤ, pos, negsuc, ◌+ℤ◌, ◌*ℤ◌, Bool, true, false, Result, Ok, Err, refl, sym, ap, ◌∙◌, subst, unsigned_abs, arith}
 use Rattle.std.specs.Prelude.{if◌then◌else◌}
 use native.Mathlib.Nat.{mul-pos}
 use lib.IntN.{*ℤ_comm}
 use Rattle.std.proofs.lemmas.Int.{ints}
 use Rattle.qm_math.specs.Fraction.{Fraction, IsSame}
-use Rattle.qm_math.proofs.Whole.{*ℤ_assoc, *ℤ_swap, cancel_le}
+use Rattle.qm_math.specs.Arithmetic.{sum_of, negated as minus_of, difference_of, product_of, quotient_of}
+use Rattle.qm_math.proofs.Whole.{*ℤ_assoc, *ℤ_swap}
+use Rattle.qm_math.proofs.Products.{cancel_same}
 use Rattle.qm_frac.specs.Signs.{signed, is_below_zero}
 use Rattle.qm_frac.specs.Lowest.{IsFrac, IsInRange}
 use Rattle.qm_frac.specs.Arithmetic.{SumFits, sum, difference, product, quotient, negated, inverse, left_num, right_num, common_den}
-use Rattle.qm_frac.proofs.MultipliedOut.{sum_of, product_of}
+use Rattle.qm_frac.proofs.MultipliedOut.{inverse-inverse_of}
 use Rattle.qm_frac.specs.Checked.{and_then, sum_fits, is_in_range, added, subtracted, multiplied, divided}
 use Rattle.qm_frac.specs.declared.leaves.Leaves.{Leaves}
 use Rattle.qm_frac.specs.declared.leaves.Op.TheVariants as op
@@ -69,14 +71,18 @@ divided_is a b r h =
 pub added-value : (a b r : Fraction) → added a b ≡ Ok r → IsSame r (sum_of a b)
 added-value a b r h = subst (λ (x : Fraction). IsSame x (sum_of a b)) (added_is a b r h).1 (sum-value a b)
 
-pub subtracted-value : (a b r : Fraction) → subtracted a b ≡ Ok r → IsSame r (sum_of a (negated b))
-subtracted-value a b r h = subst (λ (x : Fraction). IsSame x (sum_of a (negated b))) (subtracted_is a b r h).1 (sum-value a (negated b))
+pub subtracted-value : (a b r : Fraction) → subtracted a b ≡ Ok r → IsSame r (difference_of a b)
+unfolding minus_of
+subtracted-value a b r h = subst (λ (x : Fraction). IsSame x (difference_of a b)) (subtracted_is a b r h).1 (sum-value a (negated b))
 
 pub multiplied-value : (a b r : Fraction) → multiplied a b ≡ Ok r → IsSame r (product_of a b)
 multiplied-value a b r h = subst (λ (x : Fraction). IsSame x (product_of a b)) (multiplied_is a b r h).1 (product-value a b)
 
-pub divided-value : (a b r : Fraction) → divided a b ≡ Ok r → IsSame r (product_of a (inverse b))
-divided-value a b r h = subst (λ (x : Fraction). IsSame x (product_of a (inverse b))) (divided_is a b r h).1 (product-value a (inverse b))
+divided-product : (a b r : Fraction) → divided a b ≡ Ok r → IsSame r (product_of a (inverse b))
+divided-product a b r h = subst (λ (x : Fraction). IsSame x (product_of a (inverse b))) (divided_is a b r h).1 (product-value a (inverse b))
+
+pub divided-value : (a b r : Fraction) → divided a b ≡ Ok r → IsSame r (quotient_of a b)
+divided-value a b r h = rw (← inverse-inverse_of b) (divided-product a b r h)
 
 -- ---- lowest terms in range
 
@@ -114,13 +120,6 @@ inverse-num (pos n) d = refl
 inverse-num (negsuc n) zero = grind (arith, ints)
 inverse-num (negsuc n) (suc d) = refl
 
--- what is the same number of times a positive one
-cancel_eq : (x y : ℤ) (d : ℕ) → 0 < d → x *ℤ pos d ≡ y *ℤ pos d → x ≡ y
-cancel_eq x y d some h =
-    let up : x ≤ℤ y = cancel_le x y d some (omega (arith, ints)) in
-    let down : y ≤ℤ x = cancel_le y x d some (omega (arith, ints)) in
-    omega (arith, ints)
-
 regrouped : (x b d m a i r e : ℤ) → x *ℤ (d *ℤ m) ≡ (a *ℤ i) *ℤ r → i *ℤ b ≡ e *ℤ m → ((x *ℤ b) *ℤ d) *ℤ m ≡ (a *ℤ (r *ℤ e)) *ℤ m
 regrouped x b d m a i r e h k =
     *ℤ_assoc (x *ℤ b) d m
@@ -132,7 +131,8 @@ regrouped x b d m a i r e h k =
     ∙ ap (λ (z : ℤ). z *ℤ m) (*ℤ_assoc a e r ∙ ap (λ (z : ℤ). a *ℤ z) (*ℤ_comm e r))
 
 pub divided-times : (a b r : Fraction) → 0 < unsigned_abs b.num → divided a b ≡ Ok r → IsSame (product_of r b) a
+unfolding product_of
 divided-times a b r some h =
     let m = unsigned_abs b.num in
-    cancel_eq ((r.num *ℤ b.num) *ℤ pos a.den) (a.num *ℤ pos (r.den * b.den)) m some
-    (regrouped r.num b.num (pos a.den) (pos m) a.num (inverse b).num (pos r.den) (pos b.den) (divided-value a b r h) (inverse-num b.num b.den))
+    cancel_same ((r.num *ℤ b.num) *ℤ pos a.den) (a.num *ℤ pos (r.den * b.den)) m some
+    (regrouped r.num b.num (pos a.den) (pos m) a.num (inverse b).num (pos r.den) (pos b.den) (divided-product a b r h) (inverse-num b.num b.den))

@@ -98,3 +98,7 @@ lowest_unique n d m e p q some more same =
     let ed : e ∣ d = coprime_dvd e m d (IsCoprime-swap m e q) (subst (λ x. e ∣ x) same (dvd-mul_left e n)) in
     let eq : d ≡ e = dvd_antisymm de ed in
     (eq_of_mul-eq-mul_right d some n m (subst (λ x. n * x ≡ m * d) (sym eq) same), eq)
+
+pub gcd_of-one : (n : ℕ) → gcd_of n 1 ≡ 1
+unfolding gcd_of gcd_within
+gcd_of-one n = refl

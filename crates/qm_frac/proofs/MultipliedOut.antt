@@ -1,17 +1,11 @@
--- Sums and products of fractions multiplied out, not in lowest terms.
-use Rattle.std.proofs.Common.{◌≡◌, ℕ, ◌*◌, ℤ, pos, ◌+ℤ◌, ◌*ℤ◌, ap, arith, unsigned_abs}
+-- The inverse of a fraction by its sign, and multiplied out.
+use Rattle.std.proofs.Common.{◌≡◌, ℕ, ℤ, pos, ◌*ℤ◌, ap, arith, unsigned_abs}
 use Rattle.std.specs.Prelude.{negsuc}
 use Rattle.std.proofs.lemmas.Int.{ints}
 use Rattle.qm_math.specs.Fraction.{Fraction}
 use Rattle.qm_math.specs.Arithmetic.{inverse_of, sign_of}
 use Rattle.qm_frac.specs.Signs.{signed, is_below_zero}
 use Rattle.qm_frac.specs.Arithmetic.{inverse}
-
-abbrev pub sum_of : Fraction → Fraction → Fraction
-sum_of a b = record { num = (a.num *ℤ pos b.den) +ℤ (b.num *ℤ pos a.den); den = a.den * b.den }
-
-abbrev pub product_of : Fraction → Fraction → Fraction
-product_of a b = record { num = a.num *ℤ b.num; den = a.den * b.den }
 
 -- a sign on a number is the number times 1 or -1
 signed-sign_of : (n : ℤ) (d : ℕ) → signed (is_below_zero n) d ≡ sign_of n *ℤ pos d

@@ -2,11 +2,11 @@
 use Rattle.std.proofs.Common.{◌≡◌, ℕ, zero, suc, ◌*◌, ◌/◌, ℤ, pos, negsuc, ◌+ℤ◌, ◌*ℤ◌, neg_ℤ, refl, sym, ap, ap₂, ◌∙◌, arith}
 use native.Mathlib.Nat.{div-mul_cancel, zero-mul}
 use Rattle.qm_math.specs.Fraction.{Fraction, IsSame}
+use Rattle.qm_math.specs.Arithmetic.{sum_of, product_of}
 use Rattle.qm_math.proofs.Whole.{add-*ℤ, *ℤ_assoc}
 use Rattle.qm_frac.specs.Gcd.{gcd_of}
 use Rattle.qm_frac.specs.Lowest.{lowest_parts, lowest}
 use Rattle.qm_frac.specs.Arithmetic.{sum, product, left_num, right_num, common_den}
-use Rattle.qm_frac.proofs.MultipliedOut.{sum_of, product_of}
 use Rattle.qm_frac.proofs.Divisors.{gcd_is}
 
 neg-mul : (m d : ℕ) → neg_ℤ (pos m) *ℤ pos d ≡ neg_ℤ (pos (m * d))
@@ -28,9 +28,11 @@ lowest-value (negsuc n) d =
     neg-mul (m / gcd_of m d) d ∙ ap (λ (x : ℕ). neg_ℤ (pos x)) (crosswise m d (gcd_of m d) (m / gcd_of m d) (d / gcd_of m d) (div-mul_cancel (gcd_of m d) g.0) (div-mul_cancel (gcd_of m d) g.1))
 
 pub product-value : (a b : Fraction) → IsSame (product a b) (product_of a b)
+unfolding product_of
 product-value a b = lowest-value (a.num *ℤ b.num) (a.den * b.den)
 
 pub sum-value : (a b : Fraction) → IsSame (sum a b) (sum_of a b)
+unfolding sum_of
 sum-value a b =
     let g = gcd_of a.den b.den in
     let is = gcd_is a.den b.den in

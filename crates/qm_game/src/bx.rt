@@ -1,4 +1,4 @@
-ghost use Rattle.std.specs.Prelude.{◌≡◌, ◌<◌, ◌↔◌, Any, IfOk, IsTrue, length, slice_get, slice_set};
+ghost use Rattle.std.specs.Prelude.{◌≡◌, ◌<◌, ◌≤◌, ◌≤ℤ◌, ◌↔◌, Any, IfOk, IsSomeAnd, IsTrue, false, length, max, slice_get, slice_set, true, unsigned_abs};
 ghost use Rattle.std.specs.Option.{ForSome};
 ghost use Rattle.qm_model.specs.declared.variable.Var.{Var};
 ghost use Rattle.qm_model.specs.Boxes.{IsBox, IsEmptyRange, IsInside, whole_box_of};
@@ -33,6 +33,47 @@ pub fn narrow(bx: &mut Bx, var: u32, to: Range)
     ensures stays_box { (vars : List Var) → IsBox vars bx.old → IsBox vars bx.new }
 {
     put(bx, var, to)
+}
+
+/// Whether the end is no farther from 0 than the farther end of the range.
+fn is_near(end: i64, range: Range) -> bool
+    ensures { IsTrue result ↔ unsigned_abs end ≤ max (unsigned_abs range.low) (unsigned_abs range.high) }
+{
+    end.unsigned_abs() <= range.low.unsigned_abs()
+        || end.unsigned_abs() <= range.high.unsigned_abs()
+}
+
+fn ends_lie_between(inner: Range, outer: Range) -> bool
+    ensures { IsTrue result ↔ (outer.low ≤ℤ inner.low) × (inner.high ≤ℤ outer.high) }
+{
+    outer.low <= inner.low && inner.high <= outer.high
+}
+
+/// Whether the range lies inside the other, and neither end is farther from 0 than the farther end of the other.
+pub fn is_inside(inner: Range, outer: Range) -> bool
+    ensures { IsTrue result ↔ IsInside inner outer }
+{
+    if !ends_lie_between(inner, outer) {
+        return false;
+    }
+    is_near(inner.low, outer) && is_near(inner.high, outer)
+}
+
+/// Puts the range in the place of the variable's range where it lies inside that, and tells whether it does; else the
+/// box stays. So a box of the game stays one.
+pub fn try_narrow(bx: &mut Bx, var: u32, to: Range) -> bool
+    ensures inside { IsTrue result ↔ IsSomeAnd (slice_get bx.old var) (IsInside to) }
+    ensures done { result ≡ true → bx.new ≡ slice_set bx.old var to }
+    ensures refused { result ≡ false → bx.new ≡ bx.old }
+    ensures stays_box { (vars : List Var) → IsBox vars bx.old → IsBox vars bx.new }
+{
+    match bx.as_slice().get(var as usize) {
+        Some(range) if is_inside(to, *range) => {
+            narrow(bx, var, to);
+            true
+        }
+        _ => false,
+    }
 }
 
 /// Puts any range in the place of the variable's range.

@@ -1,7 +1,8 @@
 ghost use Rattle.std.specs.Prelude.{◌≡◌, ◌≤◌, drop};
 ghost use Rattle.qm_model.specs.Plays.{whole_vars};
 
-use crate::{Game, Var};
+use crate::{Bx, Game, Range, Var};
+use qm_model::range_in;
 
 /// Where a walk through the whole variables of a game stands: those that are still to be set, and how many are set.
 #[derive(Clone, Copy, Debug)]
@@ -13,8 +14,10 @@ pub struct Place<'a> {
 }
 
 impl<'a> Place<'a> {
-    ghost use Rattle.std.specs.Prelude.{◌≡◌, ◌+◌, ◌≤◌, ◌<◌, drop, length};
+    ghost use Rattle.std.specs.Prelude.{◌≡◌, ◌+◌, ◌≤◌, ◌<◌, drop, length, slice_set};
+    ghost use Rattle.qm_model.specs.Boxes.{IsBox};
     ghost use Rattle.qm_model.specs.Plays.{whole_vars};
+    ghost use Rattle.qm_model.specs.Ranges.{range_at};
 
     /// Where these many variables are set.
     pub fn at(game: &'a Game, depth: usize) -> Place<'a>
@@ -44,5 +47,23 @@ impl<'a> Place<'a> {
             rest: &self.rest[1..],
             depth: self.depth + 1,
         }
+    }
+
+    /// The range of the next variable.
+    pub fn range(self, bx: &Bx) -> Range
+        requires some { 0 < length self.rest.now }
+        requires bx { IsBox self.game.now.vars bx.now }
+        ensures { result ≡ range_at bx.now self.entry.depth }
+    {
+        range_in(bx.as_slice(), self.depth)
+    }
+
+    /// Puts a range in the place of the next variable's range.
+    pub fn put(self, bx: &mut Bx, to: Range)
+        requires some { 0 < length self.rest.now }
+        requires bx { IsBox self.game.now.vars bx.old }
+        ensures { bx.new ≡ slice_set bx.old self.entry.depth to }
+    {
+        bx.set(self.depth, to)
     }
 }

@@ -1,6 +1,12 @@
-//! The outside as two traits, `Source` and `Sink`, whose contracts say which bytes pass and count the faults.
-//! In memory they tell their bytes, and so show what a caller proves; at the system's edge they tell none.
-//! `List` is the project's growing list, and `read_all` and `write_all` are the loops over a whole input and text.
+//! The outside, as two traits. A `Source` gives bytes and a `Sink` takes them; their contracts say which bytes pass, and
+//! count the calls that fail (`specs/Causes`, `specs/Bytes`).
+//! The main calls are `read_all`, which reads an input to its end or until more than a limit came, and `write_all`, which
+//! writes a text in as many calls as it takes; both tell a failing call (`specs/Whole`).
+//! `MemorySource` and `MemorySink` tell their bytes, give them in pieces and fail where they are told to
+//! (`specs/Memory`): with them a caller's proof and program show what would happen outside. `StdSource`, `StdSink` and
+//! `FileSource` are the system's streams and files, which tell none.
+//! `List` is the project's growing list, which contracts see as the list of its items; `Memory` says that there was no
+//! room.
 #![tactic(auto)]
 
 mod calls;

@@ -1,4 +1,5 @@
-// What no clause says: that the calls go through, and what the system's edge gives and takes.
+// What no clause says, and no text in memory shows: that a list goes through its calls, and what the system's edge gives
+// and takes.
 use super::*;
 use std::alloc::{Allocator, Global};
 use std::fmt::Display;
@@ -6,87 +7,12 @@ use std::fs;
 use std::io::{self, BufRead, Lines};
 use std::test::Fail;
 
-fn bytes_of(alloc: Global, text: &[u8]) -> Result<List<u8>, Memory> {
-    let mut bytes = List::new(alloc);
-    bytes.append(text)?;
-    Ok(bytes)
-}
-
-fn calls_of(alloc: Global, calls: &[u64]) -> Result<List<u64>, Memory> {
-    let mut list = List::new(alloc);
-    list.append(calls)?;
-    Ok(list)
-}
-
 // Whether the source gives just this text.
 fn gives<S: Source>(alloc: Global, source: &mut S, text: &[u8]) -> Result<bool, ReadFault> {
     match read_all(alloc, source, text.len())? {
         Whole::Bytes(bytes) => Ok(bytes.as_slice() == text),
         Whole::Longer => Ok(false),
     }
-}
-
-#[test]
-fn reads_in_pieces(rt: HostRuntime) -> Result<(), Fail> {
-    let alloc = rt.alloc();
-    for piece in [1, 2, 7] {
-        let mut source = MemorySource::new(bytes_of(alloc, b"hello")?, piece, List::new(alloc));
-        assert!(rt;
-            gives(alloc, &mut source, b"hello")?,
-            "in pieces of {piece}"
-        );
-    }
-    let mut source = MemorySource::new(bytes_of(alloc, b"hello")?, 2, List::new(alloc));
-    assert!(rt; matches!(read_all(alloc, &mut source, 4)?, Whole::Longer));
-    Ok(())
-}
-
-#[test]
-fn reads_more_than_a_buffer(rt: HostRuntime) -> Result<(), Fail> {
-    let alloc = rt.alloc();
-    let mut bytes = List::new(alloc);
-    for i in 0..9000u16 {
-        bytes.push((i % 251) as u8)?;
-    }
-    let mut source = MemorySource::new(bytes.clone()?, 5000, List::new(alloc));
-    assert!(rt; gives(alloc, &mut source, bytes.as_slice())?);
-    let mut source = MemorySource::new(bytes, 5000, List::new(alloc));
-    assert!(rt; matches!(read_all(alloc, &mut source, 8999)?, Whole::Longer));
-    Ok(())
-}
-
-#[test]
-fn fails_at_the_call_that_is_named(rt: HostRuntime) -> Result<(), Fail> {
-    let alloc = rt.alloc();
-    for call in 1..4u64 {
-        let mut source = MemorySource::new(bytes_of(alloc, b"abc")?, 2, calls_of(alloc, &[call])?);
-        assert!(rt;
-            matches!(read_all(alloc, &mut source, 3), Err(ReadFault::Read)),
-            "call {call}"
-        );
-    }
-    let mut source = MemorySource::new(bytes_of(alloc, b"abc")?, 2, calls_of(alloc, &[2])?);
-    let mut buf = [0u8; 8];
-    assert_eq!(rt; source.read(&mut buf), Ok(2));
-    assert_eq!(rt; source.read(&mut buf), Err(Failed));
-    assert_eq!(rt; source.read(&mut buf), Ok(1));
-    assert_eq!(rt; source.read(&mut buf), Ok(0));
-    Ok(())
-}
-
-#[test]
-fn writes_in_pieces_until_a_call_fails(rt: HostRuntime) -> Result<(), Fail> {
-    let alloc = rt.alloc();
-    for piece in [1, 2, 7] {
-        let mut sink = MemorySink::new(alloc, piece, List::new(alloc));
-        assert!(rt; write_all(&mut sink, b"hel").is_ok());
-        assert!(rt; write_all(&mut sink, b"lo").is_ok());
-        assert_eq!(rt; sink.bytes(), b"hello".as_slice(), "in pieces of {piece}");
-    }
-    let mut sink = MemorySink::new(alloc, 3, calls_of(alloc, &[2])?);
-    assert_eq!(rt; write_all(&mut sink, b"hello"), Err(Failed));
-    assert_eq!(rt; sink.bytes(), b"hel".as_slice());
-    Ok(())
 }
 
 #[test]

@@ -7,8 +7,8 @@ use Rattle.qm_model.specs.declared.range.Range.{Range}
 use Rattle.qm_model.specs.declared.variable.Var.{Var}
 use Rattle.qm_model.specs.Boxes.{IsBox, IsInside}
 use Rattle.qm_model.proofs.BoxLaws.{IsBox-set}
-use Rattle.qm_legal.specs.Runs.{IsOneOf}
-use Rattle.qm_trees.specs.Ranges.{range_at, single}
+use Rattle.qm_legal.specs.SearchSteps.{IsOneOf}
+use Rattle.qm_model.specs.Ranges.{range_at, single}
 
 pub set_in_box : (xs : List Var) (bx : List Range) (depth : ℕ) (r : Range) → IsBox xs bx → IsInside r (range_at bx depth) → IsBox xs (set bx depth r)
 set_in_box xs bx depth r box inside = IsBox-set xs bx depth r box (λ q e. subst (IsInside r) (get_or_from_slice_get bx depth q (single (pos 0)) e) inside)

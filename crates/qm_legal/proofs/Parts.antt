@@ -13,9 +13,8 @@ use Rattle.qm_model.specs.Sound.{IsSound}
 use Rattle.qm_trees.specs.declared.empty.Empty.{Empty, Close}
 use Rattle.qm_trees.specs.declared.empty.EmptyPart.{EmptyPart}
 use Rattle.qm_trees.specs.EmptyJudgement.{range_of, below_of}
-use Rattle.qm_trees.specs.Ranges.{range_at}
-use Rattle.qm_legal.specs.Runs.{IsOneOf, range_to}
-use Rattle.qm_legal.specs.Search.{IsPart}
+use Rattle.qm_model.specs.Ranges.{range_at}
+use Rattle.qm_legal.specs.SearchSteps.{IsOneOf, IsPart, range_to}
 use Rattle.qm_legal.proofs.Boxes.{between_inside, set_in_box}
 use Rattle.qm_legal.proofs.RightTrees.{dead_shows}
 

@@ -2,94 +2,96 @@
 use Rattle.std.proofs.Common.{◌≡◌, refl, sym, ap, subst, ◌∙◌, ℕ, zero, suc, ◌+◌, ◌<◌, ◌≤◌, List, [], ◌∷◌, ◌++◌, length, take, drop, set, map, All, arith, ℤ, pos, ◌+ℤ◌, ◌-ℤ◌, ◌≤ℤ◌, ◌<ℤ◌, Option, Some, None, Ok, Err}
 use Rattle.std.specs.Prelude.{slice_set, Result, IfOk}
 use Rattle.std.proofs.lemmas.Int.{ints}
-use Rattle.std.proofs.lemmas.List.{length-drop, take_all, take-take, take-set-le, map-append}
+use Rattle.std.proofs.lemmas.List.{length-drop, length-take, take_all, take-take, take-set-le, map-append}
 use Rattle.std.proofs.lemmas.List.Elements.{All-push}
 use Rattle.qm_model.specs.declared.range.Range.{Range}
-use Rattle.qm_model.specs.declared.variable.Player.TheVariants.{Exists, All as Universal}
+use Rattle.qm_model.specs.declared.variable.Player.{Player}
+use Rattle.qm_model.specs.declared.variable.Player.TheVariants.{Exists}
 use Rattle.qm_model.specs.declared.variable.Var.{Var}
 use Rattle.qm_model.specs.declared.game.Problem.{Problem}
 use Rattle.qm_model.specs.Boxes.{Cover, FollowOn, IsBox, IsDead}
 use Rattle.qm_model.specs.Plays.{whole_vars}
+use Rattle.qm_model.proofs.BoxLaws.{IsBox-length}
 use Rattle.qm_game.specs.First.{HasNone}
 use Rattle.qm_trees.specs.declared.empty.Empty.{Empty}
 use Rattle.qm_trees.specs.declared.empty.EmptyPart.{EmptyPart}
 use Rattle.qm_trees.specs.EmptyJudgement.{range_of, below_of}
-use Rattle.qm_trees.specs.Ranges.{range_at, single}
-use Rattle.qm_cover.proofs.BoxPlaces.{Next, next_of, narrowed}
-use Rattle.qm_legal.specs.Search.{AreSet, IsCompleted, IsFound, IsPart, IsSearchPlace, Shows}
-use Rattle.qm_legal.specs.Runs.{IsOneOf}
+use Rattle.qm_model.specs.Ranges.{range_at, single}
+use Rattle.qm_legal.specs.Queries.{AreSet, Shows}
+use Rattle.qm_legal.specs.SearchSteps.{IsAliveBox, IsCompleted, IsFound, IsOneOf, IsPart, SetsNext}
 use Rattle.qm_legal.proofs.Boxes.{one_inside, set_in_box}
 use Rattle.qm_legal.proofs.RightTrees.{earlier}
 
 -- ---- the universal variables that are set
 
--- one range more, of one value where the variable is universal
-set_next : (xs : List Var) (depth : ℕ) (bx : List Range) (x : Var) (later : List Var) (r : Range) → drop depth xs ≡ x ∷ later → (x.player ≡ Universal → r.low ≡ r.high) → depth < length bx
-    → AreSet (take depth xs) bx → AreSet (take (suc depth) xs) (set bx depth r)
-set_next [] zero bx x later r e single below h = tt
-set_next (y ∷ xs) zero [] x later r e single below h = absurd (omega (arith, below))
-set_next (y ∷ xs) zero (q ∷ bx) x later r e single below h = (let same : y ≡ x = cc in subst (λ (z : Var). z.player ≡ Universal → r.low ≡ r.high) (sym same) single, tt)
-set_next [] (suc depth) bx x later r e single below h = tt
-set_next (y ∷ xs) (suc depth) [] x later r e single below h = absurd (omega (arith, below))
-set_next (y ∷ xs) (suc depth) (q ∷ bx) x later r e single below h = (h.0, set_next xs depth bx x later r e single (omega (arith, below)) h.1)
+-- one range more, of one value
+set_next : (xs : List Var) (depth : ℕ) (bx : List Range) (r : Range) → r.low ≡ r.high → depth < length bx → AreSet (take depth xs) bx → AreSet (take (suc depth) xs) (set bx depth r)
+set_next [] zero bx r single below h = tt
+set_next (y ∷ xs) zero [] r single below h = absurd (omega (arith, below))
+set_next (y ∷ xs) zero (q ∷ bx) r single below h = ((λ universal. single), tt)
+set_next [] (suc depth) bx r single below h = tt
+set_next (y ∷ xs) (suc depth) [] r single below h = absurd (omega (arith, below))
+set_next (y ∷ xs) (suc depth) (q ∷ bx) r single below h = (h.0, set_next xs depth bx r single (omega (arith, below)) h.1)
 
--- one variable more that isn't universal
-set_other : (xs : List Var) (depth : ℕ) (bx : List Range) (x : Var) (later : List Var) → drop depth xs ≡ x ∷ later → (x.player ≡ Universal → ⊥) → depth < length bx
-    → AreSet (take depth xs) bx → AreSet (take (suc depth) xs) bx
-set_other [] zero bx x later e other below h = tt
-set_other (y ∷ xs) zero [] x later e other below h = absurd (omega (arith, below))
-set_other (y ∷ xs) zero (q ∷ bx) x later e other below h = (let same : y ≡ x = cc in λ universal. absurd (other (subst (λ (z : Var). z.player ≡ Universal) same universal)), tt)
-set_other [] (suc depth) bx x later e other below h = tt
-set_other (y ∷ xs) (suc depth) [] x later e other below h = absurd (omega (arith, below))
-set_other (y ∷ xs) (suc depth) (q ∷ bx) x later e other below h = (h.0, set_other xs depth bx x later e other (omega (arith, below)) h.1)
+-- one variable more, which the other player sets
+set_other : (xs : List Var) (depth : ℕ) (bx : List Range) → SetsNext Exists (drop depth xs) → depth < length bx → AreSet (take depth xs) bx → AreSet (take (suc depth) xs) bx
+set_other [] zero bx other below h = tt
+set_other (y ∷ xs) zero [] other below h = absurd (omega (arith, below))
+set_other (y ∷ xs) zero (q ∷ bx) other below h = ((λ universal. cc), tt)
+set_other [] (suc depth) bx other below h = tt
+set_other (y ∷ xs) (suc depth) [] other below h = absurd (omega (arith, below))
+set_other (y ∷ xs) (suc depth) (q ∷ bx) other below h = (h.0, set_other xs depth bx other (omega (arith, below)) h.1)
 
 -- ---- places
 
-pub not_both : (x : Var) → x.player ≡ Exists → x.player ≡ Universal → ⊥
-not_both x e u = cc
+pub some_next : (player : Player) (rest : List Var) → SetsNext player rest → 0 < length rest
+some_next player [] sets = absurd sets
+some_next player (x ∷ later) sets = omega arith
 
-module _ (P : Problem) (depth : ℕ) (bx : List Range) where
+pub sets_next : (player : Player) (rest : List Var) (x : Var) (later : List Var) → rest ≡ x ∷ later → x.player ≡ player → SetsNext player rest
+sets_next player rest x later is sets = rw is sets
+
+module _ (P : Problem) (depth : ℕ) (bx : List Range) (rest : List Var) (from_depth : rest ≡ drop depth (whole_vars P)) where
+  -- the next variable has a range
+  pub next_below : 0 < length rest → IsBox P.vars bx → depth < length bx
+  next_below some box =
+      let count = ap length from_depth in
+      omega (arith, some, count, length-drop depth (whole_vars P), length-take P.wholes P.vars, IsBox-length P.vars bx box)
+
   -- where no variable is left
-  pub at_end : (rest : List Var) → rest ≡ [] → IsSearchPlace P rest depth bx → IsCompleted P depth bx bx
-  at_end rest e place =
-      let none : drop depth (whole_vars P) ≡ [] = sym place.place.place.rest_is ∙ e in
-      let short : length (whole_vars P) ≤ depth = (let n = ap length none in omega (arith, n, length-drop depth (whole_vars P))) in
+  pub completed_at_end : length rest ≡ 0 → IsAliveBox P depth bx → IsCompleted P depth bx bx
+  completed_at_end none here =
+      let count = ap length from_depth in
+      let short : length (whole_vars P) ≤ depth = omega (arith, none, count, length-drop depth (whole_vars P)) in
       record {
-        box = place.place.box;
-        set = subst (λ xs. AreSet xs bx) (take_all depth (whole_vars P) short) place.set;
-        alive = place.alive;
+        box = here.box;
+        set = subst (λ xs. AreSet xs bx) (take_all depth (whole_vars P) short) here.set;
+        alive = here.alive;
         same = refl;
       }
 
-  module _ (x : Var) (later : List Var) (place : IsSearchPlace P (x ∷ later) depth bx) where
-    pub next : Next P later depth bx
-    next = next_of P (x ∷ later) x later depth bx refl place.place
+  up : suc depth ≡ depth + 1
+  up = omega arith
 
-    rest_is : drop depth (whole_vars P) ≡ x ∷ later
-    rest_is = sym place.place.place.rest_is
+  -- behind a variable of the other player
+  pub alive_behind : SetsNext Exists rest → IsAliveBox P depth bx → IsAliveBox P (depth + 1) bx
+  alive_behind other here =
+      let below = next_below (some_next Exists rest other) here.box in
+      record {
+        box = here.box;
+        set = subst (λ n. AreSet (take n (whole_vars P)) bx) up (set_other (whole_vars P) depth bx (subst (SetsNext Exists) from_depth other) below here.set);
+        alive = here.alive;
+      }
 
-    up : suc depth ≡ depth + 1
-    up = omega arith
+  -- behind a value
+  pub alive_behind_value : 0 < length rest → (r : Range) → IsOneOf (range_at bx depth) r → HasNone (IsDead (set bx depth r)) P.urows → IsAliveBox P depth bx → IsAliveBox P (depth + 1) (set bx depth r)
+  alive_behind_value some r one alive here = record {
+    box = set_in_box P.vars bx depth r here.box (one_inside (range_at bx depth) r one);
+    set = subst (λ n. AreSet (take n (whole_vars P)) (set bx depth r)) up (set_next (whole_vars P) depth bx r one.single (next_below some here.box) here.set);
+    alive = alive;
+  }
 
-    -- behind a variable of the other player
-    pub behind : (x.player ≡ Universal → ⊥) → IsSearchPlace P later (depth + 1) bx
-    behind other = record {
-      place = next.next;
-      set = subst (λ n. AreSet (take n (whole_vars P)) bx) up (set_other (whole_vars P) depth bx x later rest_is other next.below place.set);
-      alive = place.alive;
-    }
-
-    -- behind a value
-    pub behind_value : (r : Range) → IsOneOf (range_at bx depth) r → HasNone (IsDead (set bx depth r)) P.urows → IsSearchPlace P later (depth + 1) (set bx depth r)
-    behind_value r one alive = record {
-      place = narrowed P later depth bx r (one_inside (range_at bx depth) r one) next.next;
-      set = subst (λ n. AreSet (take n (whole_vars P)) (set bx depth r)) up (set_next (whole_vars P) depth bx x later r rest_is (λ _. one.single) next.below place.set);
-      alive = alive;
-    }
-
-    pub box_with : (r : Range) → IsOneOf (range_at bx depth) r → IsBox P.vars (set bx depth r)
-    box_with r one = set_in_box P.vars bx depth r place.place.box (one_inside (range_at bx depth) r one)
-
+module _ (P : Problem) (depth : ℕ) (bx : List Range) where
   take_less : (after other : List Range) → take (depth + 1) after ≡ take (depth + 1) other → take depth after ≡ take depth other
   take_less after other e =
       sym (take-take depth (depth + 1) after (omega arith)) ∙ ap (take depth) e ∙ take-take depth (depth + 1) other (omega arith)
@@ -102,15 +104,16 @@ module _ (P : Problem) (depth : ℕ) (bx : List Range) where
   completed_behind_value r after h = record { box = h.box; set = h.set; alive = h.alive; same = take_less after (set bx depth r) h.same ∙ take-set-le depth bx depth r (omega arith) }
 
   -- what is found behind a variable of the other player
-  pub found_behind : (x : Var) (later : List Var) (after : List Range) (found : Option Empty) → IsFound P later (depth + 1) bx after found → IsFound P (x ∷ later) depth bx after found
-  found_behind x later after (Some tree) h = (earlier P bx tree x later depth h.0, h.1)
-  found_behind x later after None h = completed_behind after h
+  found_behind : (rest : List Var) → 0 < length rest → (after : List Range) (found : Option Empty) → IsFound P (drop 1 rest) (depth + 1) bx after found → IsFound P rest depth bx after found
+  found_behind [] some after found h = absurd (omega (arith, some))
+  found_behind (x ∷ later) some after (Some tree) h = (earlier P bx tree x later depth h.0, h.1)
+  found_behind (x ∷ later) some after None h = completed_behind after h
 
   -- the same of an answer that may lack memory
-  pub found_behind_if : {E : Type 0} (x : Var) (later : List Var) (after : List Range) (answer : Result (Option Empty) E)
-      → IfOk answer (IsFound P later (depth + 1) bx after) → IfOk answer (IsFound P (x ∷ later) depth bx after)
-  found_behind_if x later after (Ok found) h = found_behind x later after found h
-  found_behind_if x later after (Err e) h = h
+  pub found_behind_if : {E : Type 0} (rest : List Var) → 0 < length rest → (after : List Range) (answer : Result (Option Empty) E)
+      → IfOk answer (IsFound P (drop 1 rest) (depth + 1) bx after) → IfOk answer (IsFound P rest depth bx after)
+  found_behind_if rest some after (Ok found) h = found_behind rest some after found h
+  found_behind_if rest some after (Err e) h = h
 
 -- ---- parts
 

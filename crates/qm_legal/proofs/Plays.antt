@@ -24,15 +24,15 @@ use Rattle.qm_model.proofs.Players.{by_player, is_for_all, not_universal, univer
 use Rattle.qm_model.proofs.UncertaintyRows.{IsUniversalAt, universal_at_take, universal_is_whole}
 use Rattle.qm_game.specs.First.{HasNone}
 use Rattle.qm_trees.specs.Picks.{Fit, HoldsOnBox}
-use Rattle.qm_trees.specs.Ranges.{single}
+use Rattle.qm_model.specs.Ranges.{single}
 use Rattle.qm_trees.proofs.EmptyLines.{fine_of_right}
 use Rattle.qm_trees.proofs.EmptySound.{no_play}
 use Rattle.qm_trees.proofs.Lines.{answer_of_fine}
 use Rattle.qm_trees.specs.declared.empty.Empty.{Empty}
 use Rattle.qm_trees.specs.EmptyJudgement.{judge_empty}
 use Rattle.qm_trees.proofs.PickedPlays.{next_fits, rows_hold, skip_fits}
-use Rattle.qm_legal.specs.Search.{AreSet, IsCompleted, IsFound, Shows}
-use Rattle.qm_legal.specs.Queries.{AreFree, IsIllegal, IsQuery, low_of, set_values}
+use Rattle.qm_legal.specs.Queries.{AreFree, AreSet, IsIllegal, IsQuery, Shows, low_of, set_values}
+use Rattle.qm_legal.specs.SearchSteps.{IsCompleted, IsFound}
 use Rattle.qm_legal.proofs.RightTrees.{from_first}
 
 -- the low ends of the universal variables
@@ -68,7 +68,7 @@ set_at (x ∷ xs) [] i d set at = absurd set
 set_at (x ∷ xs) (r ∷ bx) zero d set at = set.0 (universal_of x at)
 set_at (x ∷ xs) (r ∷ bx) (suc i) d set at = set_at xs bx i d set.1 at
 
-set_long : (xs : List Var) (bx : List Range) → AreSet xs bx → length xs ≤ length bx
+pub set_long : (xs : List Var) (bx : List Range) → AreSet xs bx → length xs ≤ length bx
 set_long [] bx set = omega arith
 set_long (x ∷ xs) [] set = absurd set
 set_long (x ∷ xs) (r ∷ bx) set = omega (arith, set_long xs bx set.1)
@@ -125,11 +125,11 @@ parts_of (x ∷ xs) (suc n) (v ∷ vs) = by (is_universal x) (parts_of xs n vs)
     by false later = later
 
 -- the first values alone decide the first
-first_of : (xs : List Var) (n : ℕ) (vs : List ℤ) → universal_part (take n xs) vs ≡ universal_part (take n xs) (take n vs)
-first_of xs zero vs = refl
-first_of [] (suc n) vs = refl
-first_of (x ∷ xs) (suc n) [] = refl
-first_of (x ∷ xs) (suc n) (v ∷ vs) = by (is_universal x) (first_of xs n vs)
+universal_part-take : (xs : List Var) (n : ℕ) (vs : List ℤ) → universal_part (take n xs) vs ≡ universal_part (take n xs) (take n vs)
+universal_part-take xs zero vs = refl
+universal_part-take [] (suc n) vs = refl
+universal_part-take (x ∷ xs) (suc n) [] = refl
+universal_part-take (x ∷ xs) (suc n) (v ∷ vs) = by (is_universal x) (universal_part-take xs n vs)
   where
     by : (b : Bool) → universal_part (take n xs) vs ≡ universal_part (take n xs) (take n vs)
         → (if b then v ∷ universal_part (take n xs) vs else universal_part (take n xs) vs) ≡ (if b then v ∷ universal_part (take n xs) (take n vs) else universal_part (take n xs) (take n vs))
@@ -143,7 +143,7 @@ module _ (P : Problem) (depth : ℕ) (bx completed : List Range) where
       let xs = whole_vars P in
       let firsts : take depth (map low_of completed) ≡ take depth (map low_of bx) = take-map low_of depth completed ∙ ap (map low_of) same ∙ sym (take-map low_of depth bx) in
       let first : universal_part (take depth xs) (map low_of completed) ≡ universal_part (take depth xs) (map low_of bx) =
-      first_of xs depth (map low_of completed) ∙ ap (universal_part (take depth xs)) firsts ∙ sym (first_of xs depth (map low_of bx)) in
+      universal_part-take xs depth (map low_of completed) ∙ ap (universal_part (take depth xs)) firsts ∙ sym (universal_part-take xs depth (map low_of bx)) in
       parts_of xs depth (map low_of completed)
       ∙ ap₂ ◌++◌ first (ap (universal_part (drop depth xs)) (drop-map low_of depth completed))
 

@@ -1,5 +1,5 @@
 -- Trees that are right, and at which no operation leaves: of a dead row, of an empty range, of parts, and of later variables.
-use Rattle.std.proofs.Common.{◌≡◌, refl, sym, ap, subst, ◌∙◌, ℕ, zero, suc, ◌+◌, ◌≤◌, Bool, true, false, List, [], ◌∷◌, All, map, drop, slice_set, arith, pos, Ok, Option, Some, None, inl, inr}
+use Rattle.std.proofs.Common.{◌≡◌, refl, sym, subst, ◌∙◌, ℕ, zero, suc, ◌+◌, ◌≤◌, Bool, true, false, List, [], ◌∷◌, All, map, drop, slice_set, arith, pos, Ok, Option, Some, None, inl, inr}
 use Rattle.std.specs.Prelude.{IsSomeAnd, slice_get}
 use Rattle.std.proofs.lemmas.Int.{ints}
 use Rattle.std.proofs.lemmas.Option.{slice_get_within, get_or_from_slice_get}
@@ -16,21 +16,19 @@ use Rattle.qm_model.specs.Sound.{IsRowOver, IsSound}
 use Rattle.qm_trees.specs.declared.combination.ComboValue.TheVariants.{Void}
 use Rattle.qm_trees.specs.declared.combination.Entry.{Entry}
 use Rattle.qm_trees.specs.declared.empty.Empty.{Empty, Split, Close, out-Empty}
-use Rattle.qm_trees.specs.declared.empty.Empty.TheVariants.{rolls-Split}
-use Rattle.qm_trees.specs.declared.empty.Empty.TheViews.{out-roll-Empty}
 use Rattle.qm_trees.specs.declared.empty.Empty.TheOpen as node
 use Rattle.qm_trees.specs.declared.empty.EmptyPart.{EmptyPart}
 use Rattle.qm_trees.specs.Entries.{AreEntries, Combination, weighted_rows}
 use Rattle.qm_trees.specs.EmptyJudgement.{Layer, range_of, below_of, all_uncertain, judge_close, judge_empty, some_universal_empty}
 use Rattle.qm_trees.specs.EmptyRight.{IsCloseInRange, IsEmptyInRange, IsRightClose, IsRightEmpty, IsRightSplit, IsSplitInRange}
 use Rattle.qm_trees.specs.Evaluation.{value_of}
-use Rattle.qm_trees.specs.Ranges.{range_at}
+use Rattle.qm_model.specs.Ranges.{range_at}
 use Rattle.qm_trees.specs.Verdicts.{answer_of}
 use Rattle.qm_trees.proofs.EmptyLines.{right_of_fine}
 use Rattle.qm_trees.proofs.Lines.{fine_of_answer}
 use Rattle.qm_trees.proofs.WholeValues.{dead_row_value}
-use Rattle.qm_combo.proofs.EmptyTests.{at_close, closed_by_range, closed_by_value}
-use Rattle.qm_legal.specs.Search.{Shows}
+use Rattle.qm_combo.proofs.EmptyTests.{at_close, closed_by_range, closed_by_value, splits}
+use Rattle.qm_legal.specs.Queries.{Shows}
 
 -- ---- closing
 
@@ -77,9 +75,6 @@ module _ (P : Problem) (rest : List Var) (depth : ℕ) (bx : List Range) (tree :
           row_shows n row over box at dead is
 
 -- ---- parts
-
-splits : (var : ℕ) (parts : List EmptyPart) → out-Empty (Split var parts) ≡ node.Split var parts
-splits var parts = ap out-Empty (sym (rolls-Split var parts)) ∙ out-roll-Empty (node.Split var parts)
 
 pub split_shows : (P : Problem) (x : Var) (later : List Var) (depth : ℕ) (bx : List Range) (parts : List EmptyPart) → x.player ≡ Universal
     → Cover (range_at bx depth) (map range_of parts) → All (λ part. Shows P later (depth + 1) (slice_set bx depth (range_of part)) (below_of part)) parts

@@ -1,3 +1,2 @@
-pub mod Runs
-pub mod Search
 pub mod Queries
+pub mod SearchSteps

@@ -9,11 +9,17 @@ use Rattle.qm_model.specs.Legal.{IsLegal, universal_part}
 use Rattle.qm_model.specs.Plays.{IsPlay, whole_vars}
 use Rattle.qm_trees.specs.declared.empty.Empty.{Empty}
 use Rattle.qm_trees.specs.EmptyJudgement.{judge_empty}
+use Rattle.qm_trees.specs.EmptyRight.{IsRightEmpty, IsEmptyInRange}
 use Rattle.qm_trees.specs.Picks.{Fit}
 use Rattle.qm_trees.specs.Verdicts.{answer_of}
 use Rattle.qm_legal.specs.declared.legality.Legality.{Legality}
 use Rattle.qm_legal.specs.declared.legality.Legality.TheVariants.{Completion, Illegal}
-use Rattle.qm_legal.specs.Search.{AreSet, Shows}
+
+-- each universal variable has one value in its range
+abbrev pub AreSet : List Var → List Range → Type 0
+AreSet [] bx = Unit {0}
+AreSet (x ∷ xs) [] = ⊥
+AreSet (x ∷ xs) (r ∷ bx) = (x.player ≡ Universal → r.low ≡ r.high) × AreSet xs bx
 
 -- each universal variable's range is its bounds
 abbrev pub AreFree : List Var → List Range → Type 0
@@ -35,6 +41,11 @@ low_of r = r.low
 abbrev pub set_values : Problem → ℕ → List Range → List ℤ
 set_values P depth bx = universal_part (take depth (whole_vars P)) (map low_of bx)
 
+-- the tree is right over the box, where it may split these variables, and no operation leaves
+pub record Shows (P : Problem) (rest : List Var) (depth : ℕ) (bx : List Range) (tree : Empty) : Type 0 where
+  pub right : IsRightEmpty P rest depth bx tree
+  pub in_range : IsEmptyInRange P rest depth bx tree
+
 -- the tree is right over the box and no operation leaves, so its test passes; and no universal play is left in the box
 pub record IsIllegal (P : Problem) (bx : List Range) (tree : Empty) : Type 0 where
   pub shows : Shows P (whole_vars P) 0 bx tree
@@ -42,9 +53,9 @@ pub record IsIllegal (P : Problem) (bx : List Range) (tree : Empty) : Type 0 whe
   pub none : (us : List ℤ) → IsPlay P us → Fit (whole_vars P) bx us → ⊥
 
 -- values that complete those that are set to a universal play, or a tree that shows that there are none
-abbrev pub IsAnswer : Problem → ℕ → List Range → Legality → Type 0
-IsAnswer P depth bx (Completion values) = IsPlay P (set_values P depth bx ++ values)
-IsAnswer P depth bx (Illegal tree) = IsIllegal P bx tree
+abbrev pub IsRightLegality : Problem → ℕ → List Range → Legality → Type 0
+IsRightLegality P depth bx (Completion values) = IsPlay P (set_values P depth bx ++ values)
+IsRightLegality P depth bx (Illegal tree) = IsIllegal P bx tree
 
 abbrev pub IsCompletion : Legality → Type 0
 IsCompletion (Completion values) = Unit {0}

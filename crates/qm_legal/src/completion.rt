@@ -5,9 +5,9 @@ ghost use Rattle.qm_trees.specs.Closing.{is_empty_range};
 ghost use Rattle.qm_trees.specs.EmptyJudgement.{some_universal_empty};
 ghost use Rattle.qm_legal.specs.Queries.{low_of};
 
-use qm_cover::is_for_all;
 use qm_game::{Range, Var};
 use qm_io::{List, Memory};
+use qm_model::is_for_all;
 use std::alloc::Global;
 
 /// Puts the range's low end last, where the universal player sets the variable.

@@ -2,10 +2,10 @@ ghost use Rattle.std.specs.Prelude.{◌≡◌, ◌<◌, ◌^◌, ◌↔◌, All,
 ghost use Rattle.qm_model.specs.Boxes.{IsBox, IsDead, IsInside};
 ghost use Rattle.qm_model.specs.Sound.{IsRowOver};
 ghost use Rattle.qm_game.specs.First.{HasNone, IsFirst};
-ghost use Rattle.qm_trees.specs.Ranges.{range_at};
+ghost use Rattle.qm_model.specs.Ranges.{range_at};
 
-use qm_cover::range_in;
-use qm_game::{Bx, Game, Range, Row, least};
+use qm_game::{Bx, Game, Place, Range, Row, least};
+use qm_model::range_in;
 
 /// Whether the row is dead over the box.
 fn is_dead(game: &Game, row: &Row, bx: &Bx) -> bool
@@ -40,18 +40,18 @@ pub fn dead_row(game: &Game, bx: &Bx) -> Option<u32>
     first_dead(game, problem.urows.as_slice(), bx)
 }
 
-/// Whether the row is dead once the variable at the depth has this range. The box stays as it was.
-pub fn is_dead_with(game: &Game, row: &Row, depth: usize, bx: &mut Bx, range: Range) -> bool
-    requires row { IsRowOver game.now.vars row.now }
-    requires bx { IsBox game.now.vars bx.old }
-    requires depth { depth < length bx.old }
-    requires inside { IsInside range (range_at bx.old depth) }
-    ensures answer { IsTrue result ↔ IsDead (slice_set bx.old depth range) row.now }
+/// Whether the row is dead once the next variable has this range. The box stays as it was.
+pub fn is_dead_with(here: Place<'_>, row: &Row, bx: &mut Bx, range: Range) -> bool
+    requires row { IsRowOver here.game.now.vars row.now }
+    requires bx { IsBox here.game.now.vars bx.old }
+    requires some { 0 < length here.rest.now }
+    requires inside { IsInside range (range_at bx.old here.depth) }
+    ensures answer { IsTrue result ↔ IsDead (slice_set bx.old here.entry.depth range) row.now }
     ensures same { bx.new ≡ bx.old }
 {
-    let before = range_in(bx.as_slice(), depth);
-    bx.set(depth, range);
-    let answer = is_dead(game, row, bx);
-    bx.set(depth, before);
+    let before = range_in(bx.as_slice(), here.depth);
+    bx.set(here.depth, range);
+    let answer = is_dead(here.game, row, bx);
+    bx.set(here.depth, before);
     answer
 }

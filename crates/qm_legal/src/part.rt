@@ -1,14 +1,12 @@
-ghost use Rattle.std.specs.Prelude.{◌≡◌, ◌<◌, ◌≤ℤ◌, IfOk, IsSomeAnd, List, length, slice_get, slice_set};
-ghost use Rattle.qm_model.specs.declared.variable.Var.{Var};
+ghost use Rattle.std.specs.Prelude.{◌≡◌, ◌<◌, IfOk, IsSomeAnd, drop, length, slice_get, slice_set};
 ghost use Rattle.qm_model.specs.Boxes.{IsBox, IsDead};
 ghost use Rattle.qm_trees.specs.EmptyJudgement.{below_of, range_of};
-ghost use Rattle.qm_trees.specs.Ranges.{range_at};
-ghost use Rattle.qm_legal.specs.Runs.{IsOneOf};
-ghost use Rattle.qm_legal.specs.Search.{IsPart};
+ghost use Rattle.qm_model.specs.Ranges.{range_at};
+ghost use Rattle.qm_legal.specs.SearchSteps.{IsOneOf, IsPart};
 
 use crate::run::dead_run;
 use crate::shown::closed_by;
-use qm_game::{Bx, Game, Range};
+use qm_game::{Bx, Place, Range};
 use qm_io::Memory;
 use qm_trees::{Empty, EmptyPart};
 use std::alloc::Global;
@@ -25,21 +23,20 @@ pub fn part_of(range: Range, below: Empty) -> EmptyPart
 /// was.
 pub fn dead_part(
     alloc: Global,
-    game: &Game,
+    here: Place<'_>,
     number: u32,
-    depth: usize,
     bx: &mut Bx,
     run: Range,
 ) -> Result<EmptyPart, Memory>
-    requires bx { IsBox game.now.vars bx.old }
-    requires depth { depth < length bx.old }
-    requires run { IsOneOf (range_at bx.old depth) run }
-    requires dead { IsSomeAnd (slice_get game.now.urows number) (IsDead (slice_set bx.old depth run)) }
-    ensures part { (later : List Var) → IfOk result (IsPart game.now later depth bx.old run.low) }
+    requires bx { IsBox here.game.now.vars bx.old }
+    requires some { 0 < length here.rest.now }
+    requires run { IsOneOf (range_at bx.old here.depth) run }
+    requires dead { IsSomeAnd (slice_get here.game.now.urows number) (IsDead (slice_set bx.old here.depth run)) }
+    ensures part { IfOk result (IsPart here.entry.game.now (drop 1 here.entry.rest.now) here.entry.depth bx.old run.low) }
     ensures same { bx.new ≡ bx.old }
 {
-    let row = &game.problem().urows.as_slice()[number as usize];
-    let range = dead_run(game, row, depth, bx, run);
+    let row = &here.game.problem().urows.as_slice()[number as usize];
+    let range = dead_run(here, row, bx, run);
     let below = closed_by(alloc, number)?;
     Ok(part_of(range, below))
 }

@@ -1,29 +1,34 @@
 ghost use Rattle.std.specs.Prelude.{◌≡◌, ◌≤◌, IfOk, drop, length, map};
 ghost use Rattle.qm_model.specs.Boxes.{IsBox};
 ghost use Rattle.qm_model.specs.Legal.{universal_part};
-ghost use Rattle.qm_model.specs.Plays.{whole_vars};
-ghost use Rattle.qm_model.specs.Sound.{IsSound};
-ghost use Rattle.qm_legal.specs.Queries.{IsAnswer, IsExact, IsQuery, low_of};
-ghost use Rattle.qm_legal.specs.Search.{IsFound};
+ghost use Rattle.qm_legal.specs.Queries.{IsExact, IsQuery, IsRightLegality, low_of};
+ghost use Rattle.qm_legal.specs.SearchSteps.{IsFound};
 
 use crate::completion::{some_universal_empty, universal_lows};
 use crate::dead::dead_row;
 use crate::legality::Legality;
 use crate::search::search;
 use crate::shown::{closed_by, closed_by_range};
-use qm_game::{Bx, Game, Range, Var};
+use qm_game::{Bx, Game, Place, Range};
 use qm_io::{List, Memory};
 use qm_trees::Empty;
 use std::alloc::Global;
 
-/// The whole variables from the depth on.
-fn wholes_from<'a>(game: &'a Game, depth: usize) -> &'a [Var]
-    requires { depth ≤ game.now.wholes }
-    ensures value { result.now ≡ drop depth (whole_vars game.now) }
-    ensures sound { IsSound game.now }
+/// The tree that shows that no play is left, or none, and the box with a play's values.
+fn shown(alloc: Global, here: Place<'_>, bx: &mut Bx) -> Result<Option<Empty>, Memory>
+    requires { IsQuery here.game.now here.depth bx.old }
+    ensures { IfOk result (IsFound here.entry.game.now here.entry.rest.now here.entry.depth bx.old bx.new) }
 {
-    let problem = game.problem();
-    &problem.vars.as_slice()[depth..problem.wholes as usize]
+    // that the problem is in order
+    let _problem = here.game.problem();
+    let first = Place::at(here.game, 0);
+    if some_universal_empty(first.rest, bx.as_slice()) {
+        return Ok(Some(closed_by_range(alloc)));
+    }
+    if let Some(number) = dead_row(here.game, bx) {
+        return Ok(Some(closed_by(alloc, number)?));
+    }
+    search(alloc, here, bx)
 }
 
 /// The ranges from the depth on.
@@ -34,28 +39,15 @@ fn ranges_from(bx: &[Range], depth: usize) -> &[Range]
     &bx[depth..]
 }
 
-/// The tree that shows that no play is left, or none, and the box with a play's values.
-fn shown(alloc: Global, game: &Game, depth: usize, bx: &mut Bx) -> Result<Option<Empty>, Memory>
-    requires { IsQuery game.now depth bx.old }
-    ensures { IfOk result (IsFound game.now (drop depth (whole_vars game.now)) depth bx.old bx.new) }
+/// The values of the universal variables from here on, which are set in the box.
+fn completion(alloc: Global, here: Place<'_>, bx: &Bx) -> Result<List<i64>, Memory>
+    requires depth { here.depth ≤ here.game.now.wholes }
+    requires bx { IsBox here.game.now.vars bx.now }
+    ensures { IfOk result (λ values. values ≡ universal_part here.entry.rest.now (map low_of (drop here.entry.depth bx.now))) }
 {
-    if some_universal_empty(wholes_from(game, 0), bx.as_slice()) {
-        return Ok(Some(closed_by_range(alloc)));
-    }
-    if let Some(number) = dead_row(game, bx) {
-        return Ok(Some(closed_by(alloc, number)?));
-    }
-    search(alloc, game, wholes_from(game, depth), depth, bx)
-}
-
-/// The values of the universal variables from the depth on, which are set in the box.
-fn completion(alloc: Global, game: &Game, depth: usize, bx: &Bx) -> Result<List<i64>, Memory>
-    requires depth { depth ≤ game.now.wholes }
-    requires bx { IsBox game.now.vars bx.now }
-    ensures { IfOk result (λ values. values ≡ universal_part (drop depth (whole_vars game.now)) (map low_of (drop depth bx.now))) }
-{
-    let later = wholes_from(game, depth);
-    universal_lows(alloc, later, ranges_from(bx.as_slice(), depth))
+    // that the whole variables are some of all
+    let _problem = here.game.problem();
+    universal_lows(alloc, here.rest, ranges_from(bx.as_slice(), here.depth))
 }
 
 /// Whether the values of the universal variables before the depth, which are set in the box, can be completed to a
@@ -63,16 +55,16 @@ fn completion(alloc: Global, game: &Game, depth: usize, bx: &Bx) -> Result<List<
 /// over the box, and no operation leaves. `Memory`, where there is none for the answer.
 pub fn legal(alloc: Global, game: &Game, depth: u32, bx: &Bx) -> Result<Legality, Memory>
     requires { IsQuery game.now depth bx.now }
-    ensures answer { IfOk result (IsAnswer game.now depth bx.now) }
+    ensures answer { IfOk result (IsRightLegality game.now depth bx.now) }
     ensures exact { IfOk result (IsExact game.now depth bx.now) }
 {
     // that the problem is in order
     let _problem = game.problem();
-    let depth = depth as usize;
+    let here = Place::at(game, depth as usize);
     let mut tried = List::new(alloc);
     tried.append(bx.as_slice())?;
-    match shown(alloc, game, depth, &mut tried)? {
+    match shown(alloc, here, &mut tried)? {
         Some(tree) => Ok(Legality::Illegal(tree)),
-        None => Ok(Legality::Completion(completion(alloc, game, depth, &tried)?)),
+        None => Ok(Legality::Completion(completion(alloc, here, &tried)?)),
     }
 }

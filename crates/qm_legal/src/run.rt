@@ -2,12 +2,12 @@ ghost use Rattle.std.specs.Prelude.{◌≡◌, ◌<◌, ◌≤ℤ◌, ◌<ℤ◌
 ghost use Rattle.qm_math.specs.Ranges.{IsBetween};
 ghost use Rattle.qm_model.specs.Boxes.{IsBox, IsDead};
 ghost use Rattle.qm_model.specs.Sound.{IsRowOver};
-ghost use Rattle.qm_trees.specs.Ranges.{range_at, single};
-ghost use Rattle.qm_legal.specs.Runs.{range_to};
+ghost use Rattle.qm_model.specs.Ranges.{range_at, single};
+ghost use Rattle.qm_legal.specs.SearchSteps.{range_to};
 
 use crate::dead::is_dead_with;
-use qm_cover::range_in;
-use qm_game::{Bx, Game, Range, Row};
+use qm_game::{Bx, Place, Range, Row};
+use qm_model::range_in;
 
 /// Whether the range has values from `next` on.
 pub fn is_left(next: i128, covered: Range) -> bool
@@ -38,75 +38,75 @@ fn middle(low: i64, high: i64) -> i64
     (i128::from(low) + half) as i64
 }
 
-/// The range up to a value in the upper half of the ends that are left.
-fn halved(run: Range, ends: Range) -> Range
-    requires { ends.low <ℤ ends.high }
+/// The range up to a value in the upper half of the bracket.
+fn halved(run: Range, bracket: Range) -> Range
+    requires { bracket.low <ℤ bracket.high }
     ensures low { result.low ≡ run.low }
-    ensures above { ends.low <ℤ result.high }
-    ensures within { result.high ≤ℤ ends.high }
+    ensures above { bracket.low <ℤ result.high }
+    ensures within { result.high ≤ℤ bracket.high }
 {
     Range {
         low: run.low,
-        high: middle(ends.low, ends.high),
+        high: middle(bracket.low, bracket.high),
     }
 }
 
-/// The ends from that of the tried range on.
-fn upper(ends: Range, tried: Range) -> Range
-    ensures { result ≡ range_to tried.high ends.high }
+/// The bracket from the high end of the tried range on.
+fn upper(bracket: Range, tried: Range) -> Range
+    ensures { result ≡ range_to tried.high bracket.high }
 {
     Range {
         low: tried.high,
-        high: ends.high,
+        high: bracket.high,
     }
 }
 
-/// The ends before that of the tried range.
-fn lower(ends: Range, tried: Range) -> Range
-    requires { ends.low <ℤ tried.high }
-    ensures { result ≡ range_to ends.low (tried.high -ℤ pos 1) }
+/// The bracket before the high end of the tried range.
+fn lower(bracket: Range, tried: Range) -> Range
+    requires { bracket.low <ℤ tried.high }
+    ensures { result ≡ range_to bracket.low (tried.high -ℤ pos 1) }
 {
     Range {
-        low: ends.low,
+        low: bracket.low,
         high: tried.high - 1,
     }
 }
 
 /// The longest run of values from the low end of this one on that the row is dead over, where it is dead over this
-/// one. The box stays as it was.
-pub fn dead_run(game: &Game, row: &Row, depth: usize, bx: &mut Bx, run: Range) -> Range
-    requires row { IsRowOver game.now.vars row.now }
-    requires bx { IsBox game.now.vars bx.old }
-    requires depth { depth < length bx.old }
-    requires low { (range_at bx.old depth).low ≤ℤ run.low }
+/// one: its high end lies in a bracket that is halved. The box stays as it was.
+pub fn dead_run(here: Place<'_>, row: &Row, bx: &mut Bx, run: Range) -> Range
+    requires row { IsRowOver here.game.now.vars row.now }
+    requires bx { IsBox here.game.now.vars bx.old }
+    requires next { 0 < length here.rest.now }
+    requires low { (range_at bx.old here.depth).low ≤ℤ run.low }
     requires some { run.low ≤ℤ run.high }
-    requires high { run.high ≤ℤ (range_at bx.old depth).high }
-    requires dead { IsDead (slice_set bx.old depth run) row.now }
+    requires high { run.high ≤ℤ (range_at bx.old here.depth).high }
+    requires dead { IsDead (slice_set bx.old here.depth run) row.now }
     ensures low { result.low ≡ run.low }
     ensures some { run.high ≤ℤ result.high }
-    ensures high { result.high ≤ℤ (range_at bx.old depth).high }
-    ensures dead { IsDead (slice_set bx.old depth result) row.now }
+    ensures high { result.high ≤ℤ (range_at bx.old here.entry.depth).high }
+    ensures dead { IsDead (slice_set bx.old here.entry.depth result) row.now }
     ensures same { bx.new ≡ bx.old }
 {
-    let covered = range_in(bx.as_slice(), depth);
-    let mut ends = upper(covered, run);
-    while ends.low < ends.high {
-        let tried = halved(run, ends);
-        if is_dead_with(game, row, depth, bx, tried) {
-            ends = upper(ends, tried);
+    let covered = range_in(bx.as_slice(), here.depth);
+    let mut bracket = upper(covered, run);
+    while bracket.low < bracket.high {
+        let tried = halved(run, bracket);
+        if is_dead_with(here, row, bx, tried) {
+            bracket = upper(bracket, tried);
         } else {
-            ends = lower(ends, tried);
+            bracket = lower(bracket, tried);
         }
     }
-    run_to(run, ends)
+    run_to(run, bracket)
 }
 
-/// The range from the low end of the run to that of the ends.
-fn run_to(run: Range, ends: Range) -> Range
-    ensures { result ≡ range_to run.low ends.low }
+/// The range from the low end of the run to that of the bracket.
+fn run_to(run: Range, bracket: Range) -> Range
+    ensures { result ≡ range_to run.low bracket.low }
 {
     Range {
         low: run.low,
-        high: ends.low,
+        high: bracket.low,
     }
 }

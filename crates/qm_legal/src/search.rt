@@ -1,93 +1,59 @@
-ghost use Rattle.std.specs.Prelude.{◌≡◌, ◌<◌, ◌∷◌, IfOk, length};
-ghost use Rattle.qm_model.specs.declared.variable.Player.TheVariants.{Exists, All as Universal};
-ghost use Rattle.qm_trees.specs.Ranges.{range_at};
-ghost use Rattle.qm_legal.specs.Runs.{IsOneOf};
-ghost use Rattle.qm_legal.specs.Search.{IsFound, IsFoundPart, IsSearchPlace};
+ghost use Rattle.std.specs.Prelude.{◌≡◌, ◌<◌, IfOk, drop, length};
+ghost use Rattle.qm_model.specs.declared.variable.Player.TheVariants.{All as Universal};
+ghost use Rattle.qm_model.specs.Ranges.{range_at};
+ghost use Rattle.qm_legal.specs.SearchSteps.{IsAliveBox, IsFound, IsFoundPart, IsOneOf, SetsNext};
 
 use crate::dead::dead_row;
 use crate::part::{dead_part, part_of};
 use crate::run::{is_left, single_at};
-use qm_cover::{after, is_for_all, range_in, start};
-use qm_game::{Bx, Game, Range, Var};
+use qm_game::{Bx, Place, Range};
 use qm_io::Memory;
+use qm_model::{after, is_for_all, range_in, start};
 use qm_trees::{Empty, EmptyPart};
 use sqlite_items::Items;
 use std::alloc::Global;
 
-/// The number of the variable at the depth.
-fn number_of(game: &Game, depth: usize) -> u32
-    requires { depth < length game.now.vars }
-    ensures { result ≡ depth }
+/// The number of the next variable.
+fn number_of(here: Place<'_>) -> u32
+    requires { 0 < length here.rest.now }
+    ensures { result ≡ here.entry.depth }
 {
     // that there are few variables
-    let _problem = game.problem();
-    depth as u32
+    let _problem = here.game.problem();
+    here.depth as u32
 }
 
-/// The tree that shows that no play is left where these variables are still to be set, and the box as it was; or no
-/// tree, and the box with a play's values.
+/// The tree that shows that no play is left from here on, and the box as it was; or no tree, and the box with a play's
+/// values.
 #[cycle(search)]
-pub fn search(
-    alloc: Global,
-    game: &Game,
-    rest: &[Var],
-    depth: usize,
-    bx: &mut Bx,
-) -> Result<Option<Empty>, Memory>
-    requires { IsSearchPlace game.now rest.now depth bx.old }
-    ensures { IfOk result (IsFound game.now rest.now depth bx.old bx.new) }
+pub fn search(alloc: Global, here: Place<'_>, bx: &mut Bx) -> Result<Option<Empty>, Memory>
+    requires { IsAliveBox here.game.now here.depth bx.old }
+    ensures { IfOk result (IsFound here.entry.game.now here.entry.rest.now here.entry.depth bx.old bx.new) }
 {
-    match rest.split_first() {
+    match here.rest.split_first() {
         None => Ok(None),
-        Some((var, later)) => {
+        Some((var, _later)) => {
             if is_for_all(var) {
-                search_values(alloc, game, var, later, depth, bx)
+                search_values(alloc, here, bx)
             } else {
-                skip(alloc, game, var, later, depth, bx)
+                search(alloc, here.behind(), bx)
             }
         }
     }
 }
 
-/// The same where the other player sets the next variable.
-#[cycle(search)]
-fn skip(
-    alloc: Global,
-    game: &Game,
-    var: &Var,
-    later: &[Var],
-    depth: usize,
-    bx: &mut Bx,
-) -> Result<Option<Empty>, Memory>
-    requires place { IsSearchPlace game.now (var.now ∷ later.now) depth bx.old }
-    requires player { var.now.player ≡ Exists }
-    ensures { IfOk result (IsFound game.now (var.now ∷ later.now) depth bx.old bx.new) }
-{
-    // that there are few variables
-    let _problem = game.problem();
-    search(alloc, game, later, depth + 1, bx)
-}
-
 /// The same by the values of the next variable, from its low end on.
 #[cycle(search)]
-fn search_values(
-    alloc: Global,
-    game: &Game,
-    var: &Var,
-    later: &[Var],
-    depth: usize,
-    bx: &mut Bx,
-) -> Result<Option<Empty>, Memory>
-    requires place { IsSearchPlace game.now (var.now ∷ later.now) depth bx.old }
-    requires player { var.now.player ≡ Universal }
-    ensures { IfOk result (IsFound game.now (var.now ∷ later.now) depth bx.old bx.new) }
+fn search_values(alloc: Global, here: Place<'_>, bx: &mut Bx) -> Result<Option<Empty>, Memory>
+    requires bx { IsAliveBox here.game.now here.depth bx.old }
+    requires player { SetsNext Universal here.rest.now }
+    ensures { IfOk result (IsFound here.entry.game.now here.entry.rest.now here.entry.depth bx.old bx.new) }
 {
-    let covered = range_in(bx.as_slice(), depth);
+    let covered = range_in(bx.as_slice(), here.depth);
     let mut parts = Items::new(alloc);
     let mut next = start(covered);
     while is_left(next, covered) {
-        let run = single_at(next, covered);
-        match search_part(alloc, game, var, later, depth, bx, run)? {
+        match search_part(alloc, here, bx, single_at(next, covered))? {
             None => return Ok(None),
             Some(part) => {
                 next = after(part.range);
@@ -96,7 +62,7 @@ fn search_values(
         }
     }
     Ok(Some(Empty::Split {
-        var: number_of(game, depth),
+        var: number_of(here),
         parts,
     }))
 }
@@ -105,29 +71,27 @@ fn search_values(
 #[cycle(search)]
 fn search_part(
     alloc: Global,
-    game: &Game,
-    var: &Var,
-    later: &[Var],
-    depth: usize,
+    here: Place<'_>,
     bx: &mut Bx,
     run: Range,
 ) -> Result<Option<EmptyPart>, Memory>
-    requires place { IsSearchPlace game.now (var.now ∷ later.now) depth bx.old }
-    requires run { IsOneOf (range_at bx.old depth) run }
-    ensures { IfOk result (IsFoundPart game.now later.now depth bx.old bx.new run.low) }
+    requires bx { IsAliveBox here.game.now here.depth bx.old }
+    requires some { 0 < length here.rest.now }
+    requires run { IsOneOf (range_at bx.old here.depth) run }
+    ensures { IfOk result (IsFoundPart here.entry.game.now (drop 1 here.entry.rest.now) here.entry.depth bx.old bx.new run.low) }
 {
-    let before = range_in(bx.as_slice(), depth);
-    bx.set(depth, run);
-    match dead_row(game, bx) {
+    let before = range_in(bx.as_slice(), here.depth);
+    bx.set(here.depth, run);
+    match dead_row(here.game, bx) {
         Some(number) => {
-            bx.set(depth, before);
-            let part = dead_part(alloc, game, number, depth, bx, run)?;
+            bx.set(here.depth, before);
+            let part = dead_part(alloc, here, number, bx, run)?;
             Ok(Some(part))
         }
-        None => match search(alloc, game, later, depth + 1, bx)? {
+        None => match search(alloc, here.behind(), bx)? {
             None => Ok(None),
             Some(below) => {
-                bx.set(depth, before);
+                bx.set(here.depth, before);
                 Ok(Some(part_of(run, below)))
             }
         },

@@ -4,6 +4,7 @@ use Rattle.std.specs.Char.{is_ascii_digit}
 use Rattle.std.specs.List.{list_all, prefix_len}
 use Rattle.std.specs.Str.{str_eq_ignore_ascii_case}
 use Rattle.std.proofs.lemmas.Bool.Decides.{nat_tests}
+use Rattle.qm_math.proofs.Lists.{cons-first}
 use Rattle.qm_lex.specs.declared.token.Found.{Found}
 use Rattle.qm_lex.specs.declared.token.Kind.{Kind}
 use Rattle.qm_lex.specs.declared.token.Kind.TheVariants.{Name, Number, Plus, Minus, Less, Greater, Equal, Colon, Keyword, Infinite}
@@ -67,13 +68,10 @@ spelled_by Infinite word p is = is
 pub name_spelled : (word : List ℕ) → is_name word ≡ true → Spells (kind_of_name word) word
 name_spelled word is = spelled_by (kind_of_name word) word (name_of word) (is, refl)
 
-first_is : (byte b : ℕ) (word rest : List ℕ) → byte ∷ word ≡ b ∷ rest → byte ≡ b
-first_is byte b word rest e = cc
-
 -- a word that begins as a mark does, where a test says that its first byte begins none
 not_mark : (test : ℕ → Bool) (t : Bool) (byte b : ℕ) (word rest : List ℕ) → test byte ≡ t → test b ≡ not t → byte ∷ word ≡ b ∷ rest → ⊥
-not_mark test true byte b word rest is differs e = let same : test byte ≡ test b = ap test (first_is byte b word rest e) in absurd cc
-not_mark test false byte b word rest is differs e = let same : test byte ≡ test b = ap test (first_is byte b word rest e) in absurd cc
+not_mark test true byte b word rest is differs e = let same : test byte ≡ test b = ap test (cons-first byte b word rest e) in absurd cc
+not_mark test false byte b word rest is differs e = let same : test byte ≡ test b = ap test (cons-first byte b word rest e) in absurd cc
 
 no_digit : (byte : ℕ) → begins_name byte ≡ true → is_ascii_digit byte ≡ false
 no_digit byte begins = grind (arith, nat_tests)

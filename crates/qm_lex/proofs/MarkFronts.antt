@@ -1,5 +1,6 @@
 -- Relations, signs and colons at the front of a text.
 use Rattle.std.proofs.Common.{◌≡◌, ℕ, zero, suc, ◌<◌, ◌≤◌, Bool, true, false, cond, List, [], ◌∷◌, length, take, slice_index, Option, Some, None, MatchOption, eqb, refl, sym, ap, subst, ◌∙◌, arith, inl, inr, eqb-true}
+use Rattle.qm_math.proofs.Lists.{cons-first}
 use Rattle.qm_lex.specs.declared.token.Found.{Found}
 use Rattle.qm_lex.specs.declared.token.Kind.{Kind}
 use Rattle.qm_lex.specs.declared.token.Kind.TheVariants.{Name, Number, Plus, Minus, Less, Greater, Equal, Colon, Keyword, Infinite}
@@ -38,9 +39,6 @@ of_equal : (next : ℕ) → mark_of 61 next ≡ Some (equal_mark next)
 unfolding mark_of
 of_equal next = refl
 
-first_of : (byte b : ℕ) (word rest : List ℕ) → byte ∷ word ≡ b ∷ rest → byte ≡ b
-first_of byte b word rest e = cc
-
 same_mark : (byte b next : ℕ) (r : Option Found) → byte ≡ b → mark_of b next ≡ r → mark_of byte next ≡ r
 same_mark byte b next r e f = let P : ℕ → Type 0 = λ x. mark_of x next ≡ r in subst P (sym e) f
 
@@ -48,16 +46,16 @@ same_mark byte b next r e f = let P : ℕ → Type 0 = λ x. mark_of x next ≡ 
 pub marked : (kind : Kind) (byte next : ℕ) (word : List ℕ) → IsOther (byte ∷ word) → Spells kind (byte ∷ word) → (mark : Found) × (mark_of byte next ≡ Some mark)
 marked Name byte next word other is = let no = other.no_name in let yes = is.0 in absurd cc
 marked Number byte next word other is = let no = other.no_number in let yes = taken (byte ∷ word) is in absurd cc
-marked Plus byte next word other is = (found Plus 1, same_mark byte 43 next _ (first_of byte 43 word [] is) (of_plus next))
-marked Minus byte next word other is = (found Minus 1, same_mark byte 45 next _ (first_of byte 45 word [] is) (of_minus next))
-marked Less byte next word other (inl is) = (relation_mark Less next, same_mark byte 60 next _ (first_of byte 60 word [] is) (of_less next))
-marked Less byte next word other (inr (inl is)) = (relation_mark Less next, same_mark byte 60 next _ (first_of byte 60 word (61 ∷ []) is) (of_less next))
-marked Less byte next word other (inr (inr is)) = (equal_mark next, same_mark byte 61 next _ (first_of byte 61 word (60 ∷ []) is) (of_equal next))
-marked Greater byte next word other (inl is) = (relation_mark Greater next, same_mark byte 62 next _ (first_of byte 62 word [] is) (of_greater next))
-marked Greater byte next word other (inr (inl is)) = (relation_mark Greater next, same_mark byte 62 next _ (first_of byte 62 word (61 ∷ []) is) (of_greater next))
-marked Greater byte next word other (inr (inr is)) = (equal_mark next, same_mark byte 61 next _ (first_of byte 61 word (62 ∷ []) is) (of_equal next))
-marked Equal byte next word other is = (equal_mark next, same_mark byte 61 next _ (first_of byte 61 word [] is) (of_equal next))
-marked Colon byte next word other is = (found Colon 1, same_mark byte 58 next _ (first_of byte 58 word [] is) (of_colon next))
+marked Plus byte next word other is = (found Plus 1, same_mark byte 43 next _ (cons-first byte 43 word [] is) (of_plus next))
+marked Minus byte next word other is = (found Minus 1, same_mark byte 45 next _ (cons-first byte 45 word [] is) (of_minus next))
+marked Less byte next word other (inl is) = (relation_mark Less next, same_mark byte 60 next _ (cons-first byte 60 word [] is) (of_less next))
+marked Less byte next word other (inr (inl is)) = (relation_mark Less next, same_mark byte 60 next _ (cons-first byte 60 word (61 ∷ []) is) (of_less next))
+marked Less byte next word other (inr (inr is)) = (equal_mark next, same_mark byte 61 next _ (cons-first byte 61 word (60 ∷ []) is) (of_equal next))
+marked Greater byte next word other (inl is) = (relation_mark Greater next, same_mark byte 62 next _ (cons-first byte 62 word [] is) (of_greater next))
+marked Greater byte next word other (inr (inl is)) = (relation_mark Greater next, same_mark byte 62 next _ (cons-first byte 62 word (61 ∷ []) is) (of_greater next))
+marked Greater byte next word other (inr (inr is)) = (equal_mark next, same_mark byte 61 next _ (cons-first byte 61 word (62 ∷ []) is) (of_equal next))
+marked Equal byte next word other is = (equal_mark next, same_mark byte 61 next _ (cons-first byte 61 word [] is) (of_equal next))
+marked Colon byte next word other is = (found Colon 1, same_mark byte 58 next _ (cons-first byte 58 word [] is) (of_colon next))
 marked (Keyword keyword) byte next word other is = let no = other.no_name in let yes = is.0 in absurd cc
 marked Infinite byte next word other is = let no = other.no_name in let yes = is.0 in absurd cc
 

@@ -3,12 +3,12 @@ use Rattle.std.proofs.Common.{◌≡◌, ℕ, zero, suc, ◌+◌, Bool, true, fa
 use Rattle.std.specs.Char.{is_ascii_digit}
 use Rattle.std.specs.List.{list_all}
 use Rattle.qm_lex.specs.Bytes.{begins_exponent, is_sign}
-use Rattle.qm_lex.proofs.NumberParts.{are_digits, are_signed_digits, is_exponent}
+use Rattle.qm_lex.proofs.NumberParts.{are_some_digits, are_signed_digits, is_exponent}
 use Rattle.qm_lex.proofs.NumberWords.{is_behind_point, is_behind_digit, is_fraction, is_number}
 use Rattle.qm_lex.specs.Reading.{digits_at, one_more, signed_digits_at, exponent_at, decimals_at, tail_at, point_at, number_at}
 use Rattle.qm_lex.proofs.Fronts.{IsLongestFront, LongestFront, FrontOrZero, agreeing, agreeing_or_zero, agree_behind, empty_passes, empty_fails, more, one_more_front, stop, never, front, behind_front}
 
-no_zero : (n : ℕ) → eqb (suc n) 0 ≡ false
+pub no_zero : (n : ℕ) → eqb (suc n) 0 ≡ false
 no_zero n = search (rules, tests)
 
 suc_more : (n : ℕ) → one_more (suc n) ≡ suc (suc n)
@@ -27,20 +27,20 @@ more_or_nothing p q byte text (suc n) passes step is =
     let P : ℕ → Type 0 = λ k. IsLongestFront p (byte ∷ text) k in
     subst P (sym (suc_more n)) (more p q byte text (suc n) step is)
 
-digits_step : (byte : ℕ) (text : List ℕ) (t : Bool) → is_ascii_digit byte ≡ t → FrontOrZero are_digits (byte ∷ text) (cond t (1 + digits_at text) 0)
+digits_step : (byte : ℕ) (text : List ℕ) (t : Bool) → is_ascii_digit byte ≡ t → FrontOrZero are_some_digits (byte ∷ text) (cond t (1 + digits_at text) 0)
 digits_step byte text true e =
-    let P : ℕ → Type 0 = λ k. FrontOrZero are_digits (byte ∷ text) k in
-    subst P (sym (one-add (digits_at text))) (more are_digits (list_all is_ascii_digit) byte text (digits_at text) (λ word. rw e refl) (front is_ascii_digit text))
-digits_step byte text false e = never are_digits byte text refl (λ m. rw e refl)
+    let P : ℕ → Type 0 = λ k. FrontOrZero are_some_digits (byte ∷ text) k in
+    subst P (sym (one-add (digits_at text))) (more are_some_digits (list_all is_ascii_digit) byte text (digits_at text) (λ word. rw e refl) (front is_ascii_digit text))
+digits_step byte text false e = never are_some_digits byte text refl (λ m. rw e refl)
 
-pub digits_front : (text : List ℕ) → FrontOrZero are_digits text (digits_at text)
-digits_front [] = empty_fails are_digits refl
+pub digits_front : (text : List ℕ) → FrontOrZero are_some_digits text (digits_at text)
+digits_front [] = empty_fails are_some_digits refl
 digits_front (byte ∷ text) = digits_step byte text (is_ascii_digit byte) refl
 
 signed_step : (byte : ℕ) (text : List ℕ) (t : Bool) → is_sign byte ≡ t → FrontOrZero are_signed_digits (byte ∷ text) (cond t (one_more (digits_at text)) (digits_at (byte ∷ text)))
-signed_step byte text true e = more_or_zero are_signed_digits are_digits byte text (digits_at text) refl (λ word. rw e refl) (digits_front text)
+signed_step byte text true e = more_or_zero are_signed_digits are_some_digits byte text (digits_at text) refl (λ word. rw e refl) (digits_front text)
 signed_step byte text false e =
-    agreeing_or_zero are_signed_digits are_digits (byte ∷ text) (digits_at (byte ∷ text)) (agree_behind are_signed_digits are_digits byte text refl (λ word. rw e refl)) (digits_front (byte ∷ text))
+    agreeing_or_zero are_signed_digits are_some_digits (byte ∷ text) (digits_at (byte ∷ text)) (agree_behind are_signed_digits are_some_digits byte text refl (λ word. rw e refl)) (digits_front (byte ∷ text))
 
 pub signed_front : (text : List ℕ) → FrontOrZero are_signed_digits text (signed_digits_at text)
 unfolding signed_digits_at

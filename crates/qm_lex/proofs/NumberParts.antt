@@ -5,6 +5,7 @@ use Rattle.std.specs.Char.{is_ascii_digit}
 use Rattle.std.specs.List.{list_all}
 use Rattle.std.proofs.lemmas.Bool.Decides.{nat_tests}
 use Rattle.std.proofs.lemmas.List.{append-nil}
+use Rattle.std.proofs.lemmas.Bool.{and_parts}
 use Rattle.qm_text.specs.Digits.{is_numeral, value_of}
 use Rattle.qm_text.specs.Decimals.{SpellsDigits, SpellsExponent, SpellsPower}
 use Rattle.qm_text.proofs.Spellings.{one_of_two}
@@ -12,14 +13,14 @@ use Rattle.qm_lex.specs.Bytes.{begins_exponent, is_sign}
 use Rattle.qm_lex.specs.Numbers.{IsNumber}
 
 -- digits, one or more
-abbrev pub are_digits : List ℕ → Bool
-are_digits [] = false
-are_digits (byte ∷ word) = is_ascii_digit byte && list_all is_ascii_digit word
+abbrev pub are_some_digits : List ℕ → Bool
+are_some_digits [] = false
+are_some_digits (byte ∷ word) = is_ascii_digit byte && list_all is_ascii_digit word
 
 -- digits, with a sign before them or without one
 abbrev pub are_signed_digits : List ℕ → Bool
 are_signed_digits [] = false
-are_signed_digits (byte ∷ word) = if is_sign byte then are_digits word else are_digits (byte ∷ word)
+are_signed_digits (byte ∷ word) = if is_sign byte then are_some_digits word else are_some_digits (byte ∷ word)
 
 -- an exponent, or nothing
 abbrev pub is_exponent : List ℕ → Bool
@@ -31,38 +32,34 @@ pub record HasPoint (word : List ℕ) : Type 0 where
   pub whole : List ℕ
   pub decimals : List ℕ
   pub spelled : word ≡ whole ++ codes "." ++ decimals
-  pub digits : IsTrue (are_digits (whole ++ decimals))
+  pub digits : IsTrue (are_some_digits (whole ++ decimals))
 
 -- digits, with a point or without one, and behind them an exponent or nothing, by tests
 pub record HasParts (word : List ℕ) : Type 0 where
   pub mantissa : List ℕ
   pub exponent : List ℕ
   pub spelled : word ≡ mantissa ++ exponent
-  pub digits : IsTrue (are_digits mantissa) ⊎ HasPoint mantissa
+  pub digits : IsTrue (are_some_digits mantissa) ⊎ HasPoint mantissa
   pub ends : IsTrue (is_exponent exponent)
 
-pub both : (a b : Bool) → a && b ≡ true → (a ≡ true) × (b ≡ true)
-both true b e = (refl, e)
-both false b e = absurd cc
-
 -- the same digits
-numeral_is : (word : List ℕ) → is_numeral word ≡ are_digits word
+numeral_is : (word : List ℕ) → is_numeral word ≡ are_some_digits word
 numeral_is [] = refl
 numeral_is (byte ∷ word) = let some : 0 < length (byte ∷ word) = omega arith in grind (arith, nat_tests)
 
-to_numeral : (word : List ℕ) → are_digits word ≡ true → IsTrue (is_numeral word)
+to_numeral : (word : List ℕ) → are_some_digits word ≡ true → IsTrue (is_numeral word)
 to_numeral word is = numeral_is word ∙ is
 
-from_numeral : (word : List ℕ) → IsTrue (is_numeral word) → are_digits word ≡ true
+from_numeral : (word : List ℕ) → IsTrue (is_numeral word) → are_some_digits word ≡ true
 from_numeral word is = sym (numeral_is word) ∙ is
 
 -- ---- from the tests to the spelling
 
-to_signed : (byte : ℕ) (word : List ℕ) → (byte ≡ 43) ⊎ (byte ≡ 45) → are_digits word ≡ true → (n : ℤ) × SpellsPower (byte ∷ word) n
+to_signed : (byte : ℕ) (word : List ℕ) → (byte ≡ 43) ⊎ (byte ≡ 45) → are_some_digits word ≡ true → (n : ℤ) × SpellsPower (byte ∷ word) n
 to_signed byte word (inl e) is = (pos (value_of word), (word, to_numeral word is, inr (inl (ap (λ (b : ℕ). b ∷ word) e), refl)))
 to_signed byte word (inr e) is = (neg_ℤ (pos (value_of word)), (word, to_numeral word is, inl (ap (λ (b : ℕ). b ∷ word) e, refl)))
 
-power_step : (byte : ℕ) (word : List ℕ) (t : Bool) → is_sign byte ≡ t → cond t (are_digits word) (are_digits (byte ∷ word)) ≡ true → (n : ℤ) × SpellsPower (byte ∷ word) n
+power_step : (byte : ℕ) (word : List ℕ) (t : Bool) → is_sign byte ≡ t → cond t (are_some_digits word) (are_some_digits (byte ∷ word)) ≡ true → (n : ℤ) × SpellsPower (byte ∷ word) n
 power_step byte word true e is = to_signed byte word (one_of_two byte 43 45 e) is
 power_step byte word false e is = (pos (value_of (byte ∷ word)), (byte ∷ word, to_numeral (byte ∷ word) is, inr (inr refl, refl)))
 
@@ -77,10 +74,10 @@ exponent_step byte word (inr e) power = (power.0, inr (word, inr (ap (λ (b : �
 to_exponent : (word : List ℕ) → is_exponent word ≡ true → (n : ℤ) × SpellsExponent word n
 to_exponent [] is = (pos 0, inl (refl, refl))
 to_exponent (byte ∷ word) is =
-    let parts = both (begins_exponent byte) (are_signed_digits word) is in
+    let parts = and_parts (begins_exponent byte) (are_signed_digits word) is in
     exponent_step byte word (one_of_two byte 101 69 parts.0) (to_power word parts.1)
 
-to_digits : (word : List ℕ) → (are_digits word ≡ true) ⊎ HasPoint word → (before : List ℕ) × (behind : List ℕ) × SpellsDigits word before behind
+to_digits : (word : List ℕ) → (are_some_digits word ≡ true) ⊎ HasPoint word → (before : List ℕ) × (behind : List ℕ) × SpellsDigits word before behind
 to_digits word (inl is) = (word, [], (subst (λ (w : List ℕ). IsTrue (is_numeral w)) (sym (append-nil word)) (to_numeral word is), inr (refl, refl)))
 to_digits word (inr point) =
     (point.whole, point.decimals, (to_numeral (point.whole ++ point.decimals) point.digits, inl (point.spelled ∙ append_assoc point.whole (46 ∷ []) point.decimals)))
@@ -96,10 +93,10 @@ to_number word is =
 digit_no_sign : (byte : ℕ) → is_ascii_digit byte ≡ true → is_sign byte ≡ false
 digit_no_sign byte e = grind (arith, nat_tests)
 
-unsigned_digits : (word : List ℕ) → are_digits word ≡ true → are_signed_digits word ≡ true
+unsigned_digits : (word : List ℕ) → are_some_digits word ≡ true → are_signed_digits word ≡ true
 unsigned_digits [] is = absurd cc
 unsigned_digits (byte ∷ word) is =
-    let parts = both (is_ascii_digit byte) (list_all is_ascii_digit word) is in
+    let parts = and_parts (is_ascii_digit byte) (list_all is_ascii_digit word) is in
     rw (digit_no_sign byte parts.0) is
 
 from_power : (word : List ℕ) (n : ℤ) → SpellsPower word n → are_signed_digits word ≡ true
@@ -112,7 +109,7 @@ from_exponent word n (inl p) = ap is_exponent p.0
 from_exponent word n (inr (power, inl e, is)) = ap is_exponent e ∙ from_power power n is
 from_exponent word n (inr (power, inr e, is)) = ap is_exponent e ∙ from_power power n is
 
-from_digits : (word before behind : List ℕ) → SpellsDigits word before behind → (are_digits word ≡ true) ⊎ HasPoint word
+from_digits : (word before behind : List ℕ) → SpellsDigits word before behind → (are_some_digits word ≡ true) ⊎ HasPoint word
 from_digits word before behind (is, inl e) =
     inr (record { whole = before; decimals = behind; spelled = e ∙ sym (append_assoc before (46 ∷ []) behind); digits = from_numeral (before ++ behind) is })
 from_digits word before behind (is, inr p) =

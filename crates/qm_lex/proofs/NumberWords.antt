@@ -3,9 +3,10 @@ use Rattle.std.proofs.Common.{◌≡◌, ℕ, Bool, true, false, cond, ◌&&◌,
 use Rattle.std.specs.Char.{is_ascii_digit}
 use Rattle.std.specs.List.{list_all}
 use Rattle.std.proofs.lemmas.Bool.Decides.{nat_tests}
+use Rattle.std.proofs.lemmas.Bool.{and_parts}
 use Rattle.qm_lex.specs.Bytes.{begins_exponent}
 use Rattle.qm_lex.specs.Numbers.{IsNumber}
-use Rattle.qm_lex.proofs.NumberParts.{are_digits, are_signed_digits, is_exponent, HasParts, HasPoint, both, from_number, to_number}
+use Rattle.qm_lex.proofs.NumberParts.{are_some_digits, are_signed_digits, is_exponent, HasParts, HasPoint, from_number, to_number}
 
 -- what may stand behind the point of a number that has a digit: digits, then an exponent or nothing
 abbrev pub is_behind_point : List ℕ → Bool
@@ -94,7 +95,7 @@ behind_digit (byte ∷ word) is = behind_digit_step byte word (is_ascii_digit by
 digits_join : (one other : List ℕ) → list_all is_ascii_digit one ≡ true → list_all is_ascii_digit other ≡ true → list_all is_ascii_digit (one ++ other) ≡ true
 digits_join [] other p q = q
 digits_join (byte ∷ one) other p q =
-    let parts = both (is_ascii_digit byte) (list_all is_ascii_digit one) p in
+    let parts = and_parts (is_ascii_digit byte) (list_all is_ascii_digit one) p in
     all_and byte (one ++ other) parts.0 (digits_join one other parts.1 q)
 
 -- a number of a digit and what may stand behind it
@@ -127,7 +128,7 @@ after_digit byte word whole rest e spelled digits (inr point) =
 after_point : (byte : ℕ) (word : List ℕ) → byte ≡ 46 → is_fraction word ≡ true → HasParts (byte ∷ word)
 after_point byte [] point is = absurd cc
 after_point byte (digit ∷ word) point is =
-    let parts = both (is_ascii_digit digit) (is_behind_point word) is in
+    let parts = and_parts (is_ascii_digit digit) (is_behind_point word) is in
     let behind = behind_point word parts.1 in
     record {
       mantissa = 46 ∷ digit ∷ behind.decimals;
@@ -139,7 +140,7 @@ after_point byte (digit ∷ word) point is =
 
 number_step : (byte : ℕ) (word : List ℕ) (t : Bool) → is_ascii_digit byte ≡ t → cond t (is_behind_digit word) (eqb byte 46 && is_fraction word) ≡ true → HasParts (byte ∷ word)
 number_step byte word true e is = let behind = behind_digit word is in after_digit byte word behind.whole behind.rest e behind.spelled behind.digits behind.ends
-number_step byte word false e is = let parts = both (eqb byte 46) (is_fraction word) is in after_point byte word (eqb-true byte 46 parts.0) parts.1
+number_step byte word false e is = let parts = and_parts (eqb byte 46) (is_fraction word) is in after_point byte word (eqb-true byte 46 parts.0) parts.1
 
 parts_of : (word : List ℕ) → is_number word ≡ true → HasParts word
 parts_of [] is = absurd cc
@@ -158,54 +159,54 @@ e_no_point byte e = grind (arith, nat_tests)
 point_exponent : (word : List ℕ) → is_exponent word ≡ true → is_behind_point word ≡ true
 point_exponent [] is = refl
 point_exponent (byte ∷ word) is =
-    let parts = both (begins_exponent byte) (are_signed_digits word) is in
+    let parts = and_parts (begins_exponent byte) (are_signed_digits word) is in
     rw (e_no_digit byte parts.0) is
 
 digit_exponent : (word : List ℕ) → is_exponent word ≡ true → is_behind_digit word ≡ true
 digit_exponent [] is = refl
 digit_exponent (byte ∷ word) is =
-    let parts = both (begins_exponent byte) (are_signed_digits word) is in
+    let parts = and_parts (begins_exponent byte) (are_signed_digits word) is in
     rw (e_no_digit byte parts.0, e_no_point byte parts.0) is
 
 point_digits : (digits rest : List ℕ) → list_all is_ascii_digit digits ≡ true → is_behind_point rest ≡ true → is_behind_point (digits ++ rest) ≡ true
 point_digits [] rest p q = q
 point_digits (byte ∷ digits) rest p q =
-    let parts = both (is_ascii_digit byte) (list_all is_ascii_digit digits) p in
+    let parts = and_parts (is_ascii_digit byte) (list_all is_ascii_digit digits) p in
     rw parts.0 (point_digits digits rest parts.1 q)
 
 digit_digits : (digits rest : List ℕ) → list_all is_ascii_digit digits ≡ true → is_behind_digit rest ≡ true → is_behind_digit (digits ++ rest) ≡ true
 digit_digits [] rest p q = q
 digit_digits (byte ∷ digits) rest p q =
-    let parts = both (is_ascii_digit byte) (list_all is_ascii_digit digits) p in
+    let parts = and_parts (is_ascii_digit byte) (list_all is_ascii_digit digits) p in
     rw parts.0 (digit_digits digits rest parts.1 q)
 
 digits_part : (one other : List ℕ) → list_all is_ascii_digit (one ++ other) ≡ true → (list_all is_ascii_digit one ≡ true) × (list_all is_ascii_digit other ≡ true)
 digits_part [] other is = (refl, is)
 digits_part (byte ∷ one) other is =
-    let parts = both (is_ascii_digit byte) (list_all is_ascii_digit (one ++ other)) is in
+    let parts = and_parts (is_ascii_digit byte) (list_all is_ascii_digit (one ++ other)) is in
     let rest = digits_part one other parts.1 in
     (all_and byte one parts.0 rest.0, rest.1)
 
-takes_digits : (mantissa exponent : List ℕ) → are_digits mantissa ≡ true → is_exponent exponent ≡ true → is_number (mantissa ++ exponent) ≡ true
+takes_digits : (mantissa exponent : List ℕ) → are_some_digits mantissa ≡ true → is_exponent exponent ≡ true → is_number (mantissa ++ exponent) ≡ true
 takes_digits [] exponent is ends = absurd cc
 takes_digits (byte ∷ digits) exponent is ends =
-    let parts = both (is_ascii_digit byte) (list_all is_ascii_digit digits) is in
+    let parts = and_parts (is_ascii_digit byte) (list_all is_ascii_digit digits) is in
     rw parts.0 (digit_digits digits exponent parts.1 (digit_exponent exponent ends))
 
-takes_point : (decimals exponent : List ℕ) → are_digits decimals ≡ true → is_exponent exponent ≡ true → is_number (46 ∷ (decimals ++ exponent)) ≡ true
+takes_point : (decimals exponent : List ℕ) → are_some_digits decimals ≡ true → is_exponent exponent ≡ true → is_number (46 ∷ (decimals ++ exponent)) ≡ true
 takes_point [] exponent is ends = absurd cc
 takes_point (byte ∷ decimals) exponent is ends =
-    let parts = both (is_ascii_digit byte) (list_all is_ascii_digit decimals) is in
+    let parts = and_parts (is_ascii_digit byte) (list_all is_ascii_digit decimals) is in
     rw parts.0 (point_digits decimals exponent parts.1 (point_exponent exponent ends))
 
-takes_both : (whole decimals exponent : List ℕ) → are_digits (whole ++ decimals) ≡ true → is_exponent exponent ≡ true → is_number (whole ++ (46 ∷ (decimals ++ exponent))) ≡ true
+takes_both : (whole decimals exponent : List ℕ) → are_some_digits (whole ++ decimals) ≡ true → is_exponent exponent ≡ true → is_number (whole ++ (46 ∷ (decimals ++ exponent))) ≡ true
 takes_both [] decimals exponent is ends = takes_point decimals exponent is ends
 takes_both (byte ∷ whole) decimals exponent is ends =
-    let parts = both (is_ascii_digit byte) (list_all is_ascii_digit (whole ++ decimals)) is in
+    let parts = and_parts (is_ascii_digit byte) (list_all is_ascii_digit (whole ++ decimals)) is in
     let each = digits_part whole decimals parts.1 in
     rw parts.0 (digit_digits whole (46 ∷ (decimals ++ exponent)) each.0 (point_digits decimals exponent each.1 (point_exponent exponent ends)))
 
-takes_mantissa : (mantissa exponent : List ℕ) → (are_digits mantissa ≡ true) ⊎ HasPoint mantissa → is_exponent exponent ≡ true → is_number (mantissa ++ exponent) ≡ true
+takes_mantissa : (mantissa exponent : List ℕ) → (are_some_digits mantissa ≡ true) ⊎ HasPoint mantissa → is_exponent exponent ≡ true → is_number (mantissa ++ exponent) ≡ true
 takes_mantissa mantissa exponent (inl digits) ends = takes_digits mantissa exponent digits ends
 takes_mantissa mantissa exponent (inr point) ends =
     let together : mantissa ++ exponent ≡ point.whole ++ (46 ∷ (point.decimals ++ exponent)) =

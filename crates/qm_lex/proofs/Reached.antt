@@ -77,8 +77,8 @@ same_reach text from (token ∷ tokens) (other ∷ others) at to p ends q also =
 pub one_list : (text : List ℕ) (one other : List Token) → AreTokens text one → AreTokens text other → one ≡ other
 one_list text one other p q = (same_reach text 0 one other (length text) (length text) p (end_ends text) q (end_ends text)).tokens
 
-pub not_both : (text : List ℕ) (tokens : List Token) (at : ℕ) → AreTokens text tokens → IsFirstBad text at → ⊥
-not_both text tokens at p bad =
+pub tokens_have_no_bad_byte : (text : List ℕ) (tokens : List Token) (at : ℕ) → AreTokens text tokens → IsFirstBad text at → ⊥
+tokens_have_no_bad_byte text tokens at p bad =
     let nothing = bad.2 in
     let same = same_reach text 0 tokens bad.0 (length text) at p (end_ends text) bad.1 nothing.no_token in
     let place = same.place in

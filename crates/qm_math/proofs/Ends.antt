@@ -1,16 +1,16 @@
 -- A multiple of a fraction between two ends lies between the least and the greatest multiple of the ends, and so do sums of such.
 use Rattle.std.proofs.Common.{◌≡◌, ◌∙◌, sym, refl, ap, ◌<◌, ◌<ℤ◌, arith, List, get_or, All, ℤ, pos, negsuc, ◌*ℤ◌, ◌≤ℤ◌}
 use Rattle.std.proofs.lemmas.Int.{ints}
-use Rattle.qm_math.specs.Fraction.{Fraction, whole, IsAtMost, IsBelow, IsSame}
+use Rattle.qm_math.specs.Fraction.{Fraction, whole, IsAtMost, IsSame}
 use Rattle.qm_math.specs.Arithmetic.{product_of}
 use Rattle.qm_math.specs.Ranges.{IsBetween, least_product, greatest_product}
 use Rattle.qm_math.specs.Sums.{sum_of_each}
 use Rattle.qm_math.specs.Totals.{total_of}
-use Rattle.qm_math.specs.Combinations.{value_at}
+use Rattle.qm_math.specs.Combinations.{dot_product}
 use Rattle.qm_math.specs.Ends.{IsWithin, by_sign, least_multiple, greatest_multiple}
 use Rattle.qm_math.proofs.Between.{least_product_le, le_greatest_product}
 use Rattle.qm_math.proofs.FractionLaws.{product_of-whole, product_of-same, same_sym}
-use Rattle.qm_math.proofs.FractionOrder.{below_congr, product_of-at_most, product_of-at_most_turned, num_nonneg, num_nonpos, whole-at_most}
+use Rattle.qm_math.proofs.FractionOrder.{product_of-at_most, product_of-at_most_turned, num_nonneg, num_nonpos, whole-at_most, same_below}
 use Rattle.qm_math.proofs.Sums.{sum_of_each-le}
 use Rattle.qm_math.proofs.Totals.{total_of-at_most}
 
@@ -36,16 +36,10 @@ by_sign-same (pos m) (negsuc n) low high to from = absurd (omega (arith, ints, f
 by_sign-same (negsuc m) (pos n) low high to from = absurd (omega (arith, ints, to (omega (arith, ints))))
 by_sign-same (negsuc m) (negsuc n) low high to from = refl
 
-negative_num : (k l : Fraction) → 0 < k.den → 0 < l.den → IsSame k l → k.num <ℤ pos 0 → l.num <ℤ pos 0
-negative_num k l hk hl e h =
-    let below : IsBelow l (whole (pos 0)) =
-    below_congr k (whole (pos 0)) l (whole (pos 0)) hk (omega arith) hl (omega arith) e refl (omega (arith, ints, h)) in
-    omega (arith, ints, below)
-
 pub least_multiple-same : (k l low high : Fraction) → 0 < k.den → 0 < l.den → IsSame k l → IsSame (least_multiple k low high) (least_multiple l low high)
 least_multiple-same k l low high hk hl e =
     product_of-same k (by_sign k.num low high) l (by_sign l.num low high) e
-    (same_path (by_sign k.num low high) (by_sign l.num low high) (by_sign-same k.num l.num low high (negative_num k l hk hl e) (negative_num l k hl hk (same_sym k l e))))
+    (same_path (by_sign k.num low high) (by_sign l.num low high) (by_sign-same k.num l.num low high (same_below k l hk hl e) (same_below l k hl hk (same_sym k l e))))
   where
     same_path : (a b : Fraction) → a ≡ b → IsSame a b
     same_path a b e = ap (λ x. a.num *ℤ pos x.den) (sym e) ∙ ap (λ x. x.num *ℤ pos a.den) e
@@ -67,13 +61,13 @@ greatest_multiple-whole (negsuc n) low high = product_of-whole (negsuc n) low
 
 -- ---- over a box
 pub total_of-least_multiple : {C : Type 0} (columns : List C) (k low high x : C → Fraction) → All (λ c. IsWithin (low c) (high c) (x c)) columns
-    → IsAtMost (total_of (λ c. least_multiple (k c) (low c) (high c)) columns) (value_at columns k x)
+    → IsAtMost (total_of (λ c. least_multiple (k c) (low c) (high c)) columns) (dot_product columns k x)
 total_of-least_multiple columns k low high x within =
     total_of-at_most (λ c. least_multiple (k c) (low c) (high c)) (λ c. product_of (k c) (x c)) columns
     (λ i d below. least_multiple-at_most (k (get_or columns i d)) (low (get_or columns i d)) (high (get_or columns i d)) (x (get_or columns i d)) (within i d below))
 
 pub total_of-greatest_multiple : {C : Type 0} (columns : List C) (k low high x : C → Fraction) → All (λ c. IsWithin (low c) (high c) (x c)) columns
-    → IsAtMost (value_at columns k x) (total_of (λ c. greatest_multiple (k c) (low c) (high c)) columns)
+    → IsAtMost (dot_product columns k x) (total_of (λ c. greatest_multiple (k c) (low c) (high c)) columns)
 total_of-greatest_multiple columns k low high x within =
     total_of-at_most (λ c. product_of (k c) (x c)) (λ c. greatest_multiple (k c) (low c) (high c)) columns
     (λ i d below. at_most-greatest_multiple (k (get_or columns i d)) (low (get_or columns i d)) (high (get_or columns i d)) (x (get_or columns i d)) (within i d below))

@@ -1,5 +1,5 @@
 -- Fractions form a field: the laws of sums, products, negatives and inverses, up to the same number.
-use Rattle.std.proofs.Common.{◌≡◌, ◌∙◌, sym, refl, ap, zero, suc, ◌<◌, ◌≢◌, arith, mul-pos, [], ◌∷◌, ℤ, pos, negsuc, ◌+ℤ◌, ◌*ℤ◌, neg_ℤ, unsigned_abs}
+use Rattle.std.proofs.Common.{◌≡◌, ◌∙◌, sym, refl, ap, ◌<◌, ◌≢◌, arith, mul-pos, [], ◌∷◌, ℤ, pos, negsuc, ◌+ℤ◌, ◌*ℤ◌, neg_ℤ, unsigned_abs, ◌≤ℤ◌}
 use Rattle.std.proofs.lemmas.Int.{ints}
 use Rattle.qm_math.specs.Fraction.{Fraction, whole, IsSame}
 use Rattle.qm_math.specs.Arithmetic.{sum_of, negated, difference_of, product_of, sign_of, inverse_of, quotient_of}
@@ -8,6 +8,7 @@ use Rattle.qm_math.proofs.Products.{cancel_same}
 use Rattle.qm_math.proofs.Polynomials.{number, ◌⊕◌, ◌⊗◌, minus}
 use Rattle.qm_math.proofs.Ring.{x0, x1, x2, x3, x4, x5, x6, x7, ring, ring_from}
 use Rattle.qm_math.proofs.FractionRing.{num_of, den_of, same_by_ring, same_from}
+use Rattle.qm_math.proofs.Magnitudes.{unsigned_abs-nonzero, nonzero-one_le}
 
 -- ---- denominators stay above 0
 pub whole_den : (n : ℤ) → 0 < (whole n).den
@@ -28,17 +29,15 @@ negated_den a h = h
 pub difference_of_den : (a b : Fraction) → 0 < a.den → 0 < b.den → 0 < (difference_of a b).den
 difference_of_den a b h k = sum_of_den a (negated b) h (negated_den b k)
 
-abs_pos : (z : ℤ) → z ≢ pos 0 → 0 < unsigned_abs z
-abs_pos (pos zero) h = absurd (h refl)
-abs_pos (pos (suc n)) h = omega arith
-abs_pos (negsuc n) h = omega arith
-
 pub inverse_of_den : (a : Fraction) → a.num ≢ pos 0 → 0 < (inverse_of a).den
 unfolding inverse_of
-inverse_of_den a h = abs_pos a.num h
+inverse_of_den a h = unsigned_abs-nonzero a.num h
 
 pub quotient_of_den : (a b : Fraction) → 0 < a.den → b.num ≢ pos 0 → 0 < (quotient_of a b).den
 quotient_of_den a b h k = product_of_den a (inverse_of b) h (inverse_of_den b k)
+
+pub whole_quotient_den : (a : Fraction) (n : ℤ) → pos 1 ≤ℤ n → 0 < a.den → 0 < (quotient_of a (whole n)).den
+whole_quotient_den a n h some = quotient_of_den a (whole n) some (nonzero-one_le n h)
 
 -- ---- the same number
 pub same_refl : (a : Fraction) → IsSame a a
@@ -82,6 +81,11 @@ sum_of-negated a = same_by_ring (a ∷ []) (x0 ⊕ minus x0) (number (pos 0)) re
 -- what was taken away is put back
 pub sum_of-difference_of : (a b : Fraction) → IsSame (sum_of (difference_of a b) b) a
 sum_of-difference_of a b = same_by_ring (a ∷ b ∷ []) (x0 ⊕ minus x1 ⊕ x1) x0 refl
+
+-- the same first part of two sums
+pub sum_of_later : (a s b t c : Fraction) → IsSame (sum_of s b) (sum_of t c) → IsSame (sum_of (sum_of a s) b) (sum_of (sum_of a t) c)
+sum_of_later a s b t c e =
+    same_from (a ∷ s ∷ b ∷ t ∷ c ∷ []) (x0 ⊕ x1 ⊕ x2) (x0 ⊕ x3 ⊕ x4) ((den_of (x0 ⊗ x0), x1 ⊕ x2, x3 ⊕ x4) ∷ []) (e, tt) refl
 
 -- ---- products
 pub product_of_comm : (a b : Fraction) → IsSame (product_of a b) (product_of b a)

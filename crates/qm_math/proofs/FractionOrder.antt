@@ -3,7 +3,7 @@ use Rattle.std.proofs.Common.{◌≡◌, sym, refl, ℕ, ◌*◌, ◌<◌, ◌�
 use Rattle.std.proofs.lemmas.Int.{ints}
 use Rattle.qm_math.specs.Fraction.{Fraction, whole, IsAtMost, IsBelow, IsSame}
 use Rattle.qm_math.specs.Arithmetic.{sum_of, negated, difference_of, product_of}
-use Rattle.qm_math.proofs.Whole.{cancel_le, cancel_lt}
+use Rattle.qm_math.proofs.Whole.{cancel_le, cancel_lt, le_sum}
 use Rattle.qm_math.proofs.Products.{*ℤ-le, *ℤ-le_turned, *ℤ-lt}
 use Rattle.qm_math.proofs.Polynomials.{◌⊕◌, ◌⊗◌, minus}
 use Rattle.qm_math.proofs.Ring.{x0, x1, x2, x3, x4, x5, x6, x7, ring, ring_le, ring_lt}
@@ -14,9 +14,6 @@ pos_nonneg n = omega (arith, ints)
 
 pos_above : (n : ℕ) → 0 < n → pos 0 <ℤ pos n
 pos_above n h = omega (arith, ints)
-
-le_sum : (a b c d : ℤ) → a ≤ℤ b → c ≤ℤ d → (a +ℤ c) ≤ℤ (b +ℤ d)
-le_sum a b c d h k = omega (arith, ints)
 
 lt_sum : (a b c d : ℤ) → a <ℤ b → c ≤ℤ d → (a +ℤ c) <ℤ (b +ℤ d)
 lt_sum a b c d h k = omega (arith, ints)
@@ -100,6 +97,29 @@ nonpos_num k h = omega (arith, ints, h)
 
 pub num_nonpos : (k : Fraction) → k.num ≤ℤ pos 0 → IsAtMost k (whole (pos 0))
 num_nonpos k h = omega (arith, ints, h)
+
+pub above_of_num : (p : Fraction) → pos 0 <ℤ p.num → IsBelow (whole (pos 0)) p
+above_of_num p h = omega (arith, ints, h)
+
+pub num_of_above : (p : Fraction) → IsBelow (whole (pos 0)) p → pos 0 <ℤ p.num
+num_of_above p h = omega (arith, ints, h)
+
+pub below_of_num : (p : Fraction) → p.num <ℤ pos 0 → IsBelow p (whole (pos 0))
+below_of_num p h = omega (arith, ints, h)
+
+pub num_of_below : (p : Fraction) → IsBelow p (whole (pos 0)) → p.num <ℤ pos 0
+num_of_below p h = omega (arith, ints, h)
+
+-- the same number has the same sign
+pub same_above : (a b : Fraction) → 0 < a.den → 0 < b.den → IsSame a b → pos 0 <ℤ a.num → pos 0 <ℤ b.num
+same_above a b ad bd e h =
+    let z = whole (pos 0) in
+    num_of_above b (below_congr z a z b (omega arith) ad (omega arith) bd refl e (above_of_num a h))
+
+pub same_below : (a b : Fraction) → 0 < a.den → 0 < b.den → IsSame a b → a.num <ℤ pos 0 → b.num <ℤ pos 0
+same_below a b ad bd e h =
+    let z = whole (pos 0) in
+    num_of_below b (below_congr a z b z ad (omega arith) bd (omega arith) e refl (below_of_num a h))
 
 scaled : (k : Fraction) (x y : ℤ) → pos 0 ≤ℤ k.num → x ≤ℤ y → (pos k.den *ℤ (k.num *ℤ x)) ≤ℤ (pos k.den *ℤ (k.num *ℤ y))
 scaled k x y h e = *ℤ-le (pos k.den) (k.num *ℤ x) (k.num *ℤ y) (pos_nonneg k.den) (*ℤ-le k.num x y h e)

@@ -1,3 +1,6 @@
+pub mod Lists
+pub mod WholeTests
+pub mod Magnitudes
 pub mod Whole
 pub mod Between
 pub mod Searches

@@ -7,7 +7,7 @@ use Rattle.qm_math.specs.Fraction.{Fraction, whole, IsSame, IsAtMost, IsBelow}
 use Rattle.qm_math.specs.Arithmetic.{sum_of, product_of, inverse_of, quotient_of}
 use Rattle.qm_math.specs.Sums.{sum_of_each}
 use Rattle.qm_math.specs.Totals.{total_of}
-use Rattle.qm_math.specs.Combinations.{value_at}
+use Rattle.qm_math.specs.Combinations.{dot_product}
 use Rattle.qm_math.specs.Over.{over, common_den, common_nums}
 use Rattle.qm_math.proofs.Whole.{scaled_le, scaled_lt, cancel_le, cancel_lt}
 use Rattle.qm_math.proofs.Polynomials.{number, ◌⊕◌, ◌⊗◌}
@@ -59,17 +59,17 @@ total_of-over d f [] = omega (arith, ints)
 total_of-over d f (x ∷ xs) = over_step d (f x) (sum_of_each f xs) (total_of (λ x. over d (f x)) xs) (total_of-over d f xs)
 
 -- a row of whole numbers at values over one denominator
-value_step : (d : ℕ) (k m n : ℤ) (t : Fraction) → IsSame t (over d n) → IsSame (sum_of (product_of (whole k) (over d m)) t) (over d ((k *ℤ m) +ℤ n))
+pub value_step : (d : ℕ) (k m n : ℤ) (t : Fraction) → IsSame t (over d n) → IsSame (sum_of (product_of (whole k) (over d m)) t) (over d ((k *ℤ m) +ℤ n))
 unfolding sum_of product_of
 value_step d k m n t e =
     ring_from (m ∷ n ∷ pos d ∷ t.num ∷ pos t.den ∷ k ∷ []) ((x5 ⊗ x0 ⊗ x4 ⊕ x3 ⊗ (number (pos 1) ⊗ x2)) ⊗ x2) ((x5 ⊗ x0 ⊕ x1) ⊗ (number (pos 1) ⊗ x2 ⊗ x4))
     ((x2, x3 ⊗ x2, x1 ⊗ x4) ∷ []) (e, tt) refl
 
-pub value_at-over : {C : Type 0} (d : ℕ) (columns : List C) (k x : C → ℤ)
-    → IsSame (value_at columns (λ c. whole (k c)) (λ c. over d (x c))) (over d (sum_of_each (λ c. k c *ℤ x c) columns))
-value_at-over d [] k x = omega (arith, ints)
-value_at-over d (c ∷ columns) k x =
-    value_step d (k c) (x c) (sum_of_each (λ c. k c *ℤ x c) columns) (value_at columns (λ c. whole (k c)) (λ c. over d (x c))) (value_at-over d columns k x)
+pub dot_product-over : {C : Type 0} (d : ℕ) (columns : List C) (k x : C → ℤ)
+    → IsSame (dot_product columns (λ c. whole (k c)) (λ c. over d (x c))) (over d (sum_of_each (λ c. k c *ℤ x c) columns))
+dot_product-over d [] k x = omega (arith, ints)
+dot_product-over d (c ∷ columns) k x =
+    value_step d (k c) (x c) (sum_of_each (λ c. k c *ℤ x c) columns) (dot_product columns (λ c. whole (k c)) (λ c. over d (x c))) (dot_product-over d columns k x)
 
 -- ---- any fractions over their common denominator
 pub common_den_pos : (xs : List Fraction) → All (λ x. 0 < x.den) xs → 0 < common_den xs

@@ -5,9 +5,9 @@ use Rattle.qm_math.specs.Fraction.{Fraction, whole, IsSame}
 use Rattle.qm_math.specs.Arithmetic.{sum_of}
 use Rattle.qm_math.specs.Totals.{total_of}
 use Rattle.qm_math.proofs.Polynomials.{number, ◌⊕◌, ◌⊗◌}
-use Rattle.qm_math.proofs.Ring.{x0, x1, x2, x3, x4}
+use Rattle.qm_math.proofs.Ring.{x0, x1, x2}
 use Rattle.qm_math.proofs.FractionRing.{den_of, same_by_ring, same_from}
-use Rattle.qm_math.proofs.FractionLaws.{same_refl, same_sym, sum_of-same, sum_of_comm}
+use Rattle.qm_math.proofs.FractionLaws.{same_refl, same_sym, sum_of-same, sum_of_comm, sum_of_later}
 use Rattle.qm_math.proofs.Totals.{append_step}
 
 -- the first items, and one more
@@ -28,16 +28,12 @@ total_of-push f (y ∷ xs) x = append_step (f y) (total_of f (xs ++ x ∷ [])) (
 set_here : (a b t : Fraction) → IsSame (sum_of (sum_of a t) b) (sum_of (sum_of b t) a)
 set_here a b t = same_by_ring (a ∷ b ∷ t ∷ []) (x0 ⊕ x2 ⊕ x1) (x1 ⊕ x2 ⊕ x0) refl
 
-set_later : (a s b t c : Fraction) → IsSame (sum_of s b) (sum_of t c) → IsSame (sum_of (sum_of a s) b) (sum_of (sum_of a t) c)
-set_later a s b t c e =
-    same_from (a ∷ s ∷ b ∷ t ∷ c ∷ []) (x0 ⊕ x1 ⊕ x2) (x0 ⊕ x3 ⊕ x4) ((den_of (x0 ⊗ x0), x1 ⊕ x2, x3 ⊕ x4) ∷ []) (e, tt) refl
-
 pub total_of-set : {A : Type 0} (f : A → Fraction) (xs : List A) (i : ℕ) (x d : A) → i < length xs
     → IsSame (sum_of (total_of f (set xs i x)) (f (get_or xs i d))) (sum_of (total_of f xs) (f x))
 total_of-set f [] i x d h = absurd (omega arith)
 total_of-set f (y ∷ xs) zero x d h = set_here (f x) (f y) (total_of f xs)
 total_of-set f (y ∷ xs) (suc i) x d h =
-    set_later (f y) (total_of f (set xs i x)) (f (get_or xs i d)) (total_of f xs) (f x) (total_of-set f xs i x d (omega arith))
+    sum_of_later (f y) (total_of f (set xs i x)) (f (get_or xs i d)) (total_of f xs) (f x) (total_of-set f xs i x d (omega arith))
 
 -- ---- items left out that give 0
 left_out : (a t u : Fraction) → IsSame t u → IsSame a (whole (pos 0)) → IsSame t (sum_of a u)

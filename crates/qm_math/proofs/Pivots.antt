@@ -4,14 +4,14 @@ use Rattle.std.proofs.lemmas.List.Elements.{All-set, All-get_or}
 use Rattle.qm_math.specs.Fraction.{Fraction, IsSame}
 use Rattle.qm_math.specs.Arithmetic.{sum_of, difference_of, product_of}
 use Rattle.qm_math.specs.Totals.{sum_of_products, reduced_row}
-use Rattle.qm_math.specs.Combinations.{value_at}
+use Rattle.qm_math.specs.Combinations.{dot_product}
 use Rattle.qm_math.specs.Pivots.{row_value, pivoted_row, pivoted_constant, pivoted_number}
 use Rattle.qm_math.proofs.Polynomials.{item, number, ◌⊕◌, ◌⊗◌, minus}
 use Rattle.qm_math.proofs.Ring.{x0, x1, x2, x3, x4, x5, x6, x7, x8, x9}
 use Rattle.qm_math.proofs.FractionRing.{den_of, same_by_ring, same_from}
 use Rattle.qm_math.proofs.FractionLinear.{same_given}
 use Rattle.qm_math.proofs.FractionLaws.{product_of_den, difference_of_den}
-use Rattle.qm_math.proofs.Combinations.{value_at_den}
+use Rattle.qm_math.proofs.Combinations.{dot_product_den}
 use Rattle.qm_math.proofs.Rows.{sum_of_products_den, length-reduced_row, get_or-reduced_row, reduced_row_den, reduced_step, sum_of_products-reduced_row, sum_of_products-set, sum_of_products-set_value}
 
 -- the algebra of it: t, u and q are what the rows and the values have in the pivot column, T and U the sums
@@ -79,12 +79,12 @@ row_value-shifted constant shift ks vs c d in_row in_values hconstant hshift hk 
     (sum_of_products-set_value ks vs c moved d d in_row in_values)
 
 -- ---- the same by columns: t and u give the two rows' numbers in the columns other than the pivot column
-pub value_at-reduced_row : {C : Type 0} (columns : List C) (f : Fraction) (t u x : C → Fraction)
-    → IsSame (value_at columns (λ c. difference_of (t c) (product_of f (u c))) x) (difference_of (value_at columns t x) (product_of f (value_at columns u x)))
-value_at-reduced_row [] f t u x = same_by_ring (f ∷ []) (number (pos 0)) (number (pos 0) ⊕ minus (x0 ⊗ number (pos 0))) refl
-value_at-reduced_row (c ∷ columns) f t u x =
-    reduced_step (t c) f (u c) (x c) (value_at columns t x) (value_at columns u x)
-    (value_at columns (λ c. difference_of (t c) (product_of f (u c))) x) (value_at-reduced_row columns f t u x)
+pub dot_product-reduced_row : {C : Type 0} (columns : List C) (f : Fraction) (t u x : C → Fraction)
+    → IsSame (dot_product columns (λ c. difference_of (t c) (product_of f (u c))) x) (difference_of (dot_product columns t x) (product_of f (dot_product columns u x)))
+dot_product-reduced_row [] f t u x = same_by_ring (f ∷ []) (number (pos 0)) (number (pos 0) ⊕ minus (x0 ⊗ number (pos 0))) refl
+dot_product-reduced_row (c ∷ columns) f t u x =
+    reduced_step (t c) f (u c) (x c) (dot_product columns t x) (dot_product columns u x)
+    (dot_product columns (λ c. difference_of (t c) (product_of f (u c))) x) (dot_product-reduced_row columns f t u x)
 
 keeps_by_column : (constant other f y p tc q t u n : Fraction)
     → 0 < constant.den → 0 < other.den → 0 < f.den → 0 < y.den → 0 < p.den → 0 < tc.den → 0 < q.den → 0 < t.den → 0 < u.den → 0 < n.den
@@ -97,20 +97,20 @@ keeps_by_column constant other f y p tc q t u n h0 h1 h2 h3 h4 h5 h6 h7 h8 h9 le
     (h0, (h1, (h2, (h3, (h4, (h5, (h6, (h7, (h8, (h9, tt)))))))))) (less, (factor, (pivot, tt))) refl
 
 -- p and tc stand in the pivot column of the pivot row and of the row, q is the value of that column's unknown
-pub value_at-pivoted : {C : Type 0} (columns : List C) (constant other f y p tc q : Fraction) (t u x : C → Fraction)
+pub dot_product-pivoted : {C : Type 0} (columns : List C) (constant other f y p tc q : Fraction) (t u x : C → Fraction)
     → 0 < constant.den → 0 < other.den → 0 < f.den → 0 < y.den → 0 < p.den → 0 < tc.den → 0 < q.den
     → All (λ c. 0 < (t c).den) columns → All (λ c. 0 < (u c).den) columns → All (λ c. 0 < (x c).den) columns
-    → IsSame (product_of f p) tc → IsSame y (sum_of other (sum_of (product_of p q) (value_at columns u x)))
-    → IsSame (sum_of (pivoted_constant constant f other) (sum_of (product_of f y) (value_at columns (λ c. difference_of (t c) (product_of f (u c))) x)))
-    (sum_of constant (sum_of (product_of tc q) (value_at columns t x)))
-value_at-pivoted columns constant other f y p tc q t u x h0 h1 h2 h3 h4 h5 h6 ht hu hx factor pivot =
-    keeps_by_column constant other f y p tc q (value_at columns t x) (value_at columns u x) (value_at columns (λ c. difference_of (t c) (product_of f (u c))) x)
+    → IsSame (product_of f p) tc → IsSame y (sum_of other (sum_of (product_of p q) (dot_product columns u x)))
+    → IsSame (sum_of (pivoted_constant constant f other) (sum_of (product_of f y) (dot_product columns (λ c. difference_of (t c) (product_of f (u c))) x)))
+    (sum_of constant (sum_of (product_of tc q) (dot_product columns t x)))
+dot_product-pivoted columns constant other f y p tc q t u x h0 h1 h2 h3 h4 h5 h6 ht hu hx factor pivot =
+    keeps_by_column constant other f y p tc q (dot_product columns t x) (dot_product columns u x) (dot_product columns (λ c. difference_of (t c) (product_of f (u c))) x)
     h0 h1 h2 h3 h4 h5 h6
-    (value_at_den columns t x ht hx) (value_at_den columns u x hu hx)
-    (value_at_den columns (λ c. difference_of (t c) (product_of f (u c))) x
+    (dot_product_den columns t x ht hx) (dot_product_den columns u x hu hx)
+    (dot_product_den columns (λ c. difference_of (t c) (product_of f (u c))) x
     (λ i d below. difference_of_den (t (get_or columns i d)) (product_of f (u (get_or columns i d))) (ht i d below)
     (product_of_den f (u (get_or columns i d)) h2 (hu i d below))) hx)
-    (value_at-reduced_row columns f t u x) factor pivot
+    (dot_product-reduced_row columns f t u x) factor pivot
 
 -- ---- what a pivot does to a row is linear in the row
 linear_step : (y t c g r s e n : Fraction) → IsSame (difference_of s (product_of (product_of e g) r)) n
@@ -121,9 +121,9 @@ linear_step y t c g r s e n h =
     (x0 ⊗ x1 ⊕ x5 ⊕ minus ((x0 ⊗ x2 ⊕ x6) ⊗ x3 ⊗ x4)) (x0 ⊗ (x1 ⊕ minus (x2 ⊗ x3 ⊗ x4)) ⊕ x7)
     ((den_of (x0 ⊗ x0 ⊗ x0 ⊗ x1 ⊗ x1 ⊗ x2 ⊗ x2 ⊗ x3 ⊗ x4), x5 ⊕ minus (x6 ⊗ x3 ⊗ x4), x7) ∷ []) (h, tt) refl
 
-pub pivoted_number-value_at : {R : Type 0} (rows : List R) (y t p : R → Fraction) (g r : Fraction)
-    → IsSame (pivoted_number (value_at rows y t) (value_at rows y p) g r) (value_at rows y (λ i. pivoted_number (t i) (p i) g r))
-pivoted_number-value_at [] y t p g r = same_by_ring (g ∷ r ∷ []) (number (pos 0) ⊕ minus (number (pos 0) ⊗ x0 ⊗ x1)) (number (pos 0)) refl
-pivoted_number-value_at (i ∷ rows) y t p g r =
-    linear_step (y i) (t i) (p i) g r (value_at rows y t) (value_at rows y p) (value_at rows y (λ i. pivoted_number (t i) (p i) g r))
-    (pivoted_number-value_at rows y t p g r)
+pub pivoted_number-dot_product : {R : Type 0} (rows : List R) (y t p : R → Fraction) (g r : Fraction)
+    → IsSame (pivoted_number (dot_product rows y t) (dot_product rows y p) g r) (dot_product rows y (λ i. pivoted_number (t i) (p i) g r))
+pivoted_number-dot_product [] y t p g r = same_by_ring (g ∷ r ∷ []) (number (pos 0) ⊕ minus (number (pos 0) ⊗ x0 ⊗ x1)) (number (pos 0)) refl
+pivoted_number-dot_product (i ∷ rows) y t p g r =
+    linear_step (y i) (t i) (p i) g r (dot_product rows y t) (dot_product rows y p) (dot_product rows y (λ i. pivoted_number (t i) (p i) g r))
+    (pivoted_number-dot_product rows y t p g r)

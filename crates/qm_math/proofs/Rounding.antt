@@ -26,14 +26,14 @@ quotient_down_next : (z : ℤ) (d : ℕ) → 0 < d → (z *ℤ pos 1) <ℤ ((quo
 quotient_down_next (pos n) d h = omega (arith, ints, quotient_high n d h)
 quotient_down_next (negsuc n) d h = omega (arith, ints, quotient_low n d)
 
-one_more : (z : ℤ) (d : ℕ) → (z +ℤ pos 1) *ℤ pos d ≡ (z *ℤ pos d) +ℤ pos d
-one_more z d = add-*ℤ z (pos 1) (pos d) ∙ ap (λ k. (z *ℤ pos d) +ℤ k) (omega (arith, ints))
+add_one-*ℤ : (z : ℤ) (d : ℕ) → (z +ℤ pos 1) *ℤ pos d ≡ (z *ℤ pos d) +ℤ pos d
+add_one-*ℤ z d = add-*ℤ z (pos 1) (pos d) ∙ ap (λ k. (z *ℤ pos d) +ℤ k) (omega (arith, ints))
 
 pub floor_of-IsFloor : (a : Fraction) → 0 < a.den → IsFloor (floor_of a) a
 unfolding floor_of
 floor_of-IsFloor a h = (
   quotient_down_low a.num a.den h,
-  subst (λ k. (a.num *ℤ pos 1) <ℤ k) (sym (one_more (quotient_down a.num a.den) a.den)) (quotient_down_next a.num a.den h),
+  subst (λ k. (a.num *ℤ pos 1) <ℤ k) (sym (add_one-*ℤ (quotient_down a.num a.den) a.den)) (quotient_down_next a.num a.den h),
 )
 
 -- ---- it is the greatest

@@ -8,7 +8,7 @@ use Rattle.qm_math.specs.Totals.{sum_of_products, reduced_row}
 use Rattle.qm_math.proofs.Polynomials.{number, ◌⊕◌, ◌⊗◌, minus}
 use Rattle.qm_math.proofs.Ring.{x0, x1, x2, x3, x4, x5, x6}
 use Rattle.qm_math.proofs.FractionRing.{den_of, same_by_ring, same_from}
-use Rattle.qm_math.proofs.FractionLaws.{whole_den, sum_of_den, product_of_den, difference_of_den, sum_of-same, product_of-same}
+use Rattle.qm_math.proofs.FractionLaws.{whole_den, sum_of_den, product_of_den, difference_of_den, sum_of-same, product_of-same, sum_of_later}
 
 pub sum_of_products_den : (ks vs : List Fraction) → All (λ k. 0 < k.den) ks → All (λ v. 0 < v.den) vs → 0 < (sum_of_products ks vs).den
 sum_of_products_den [] vs hk hv = whole_den (pos 0)
@@ -73,17 +73,13 @@ sum_of_products-reduced_row (k ∷ ks) f (o ∷ os) (v ∷ vs) e =
 set_here : (k l v w t : Fraction) → IsSame (sum_of (sum_of (product_of l w) t) (product_of k v)) (sum_of (sum_of (product_of k v) t) (product_of l w))
 set_here k l v w t = same_by_ring (k ∷ l ∷ v ∷ w ∷ t ∷ []) (x1 ⊗ x3 ⊕ x4 ⊕ x0 ⊗ x2) (x0 ⊗ x2 ⊕ x4 ⊕ x1 ⊗ x3) refl
 
-set_later : (a s z t y : Fraction) → IsSame (sum_of s z) (sum_of t y) → IsSame (sum_of (sum_of a s) z) (sum_of (sum_of a t) y)
-set_later a s z t y e =
-    same_from (a ∷ s ∷ z ∷ t ∷ y ∷ []) (x0 ⊕ x1 ⊕ x2) (x0 ⊕ x3 ⊕ x4) ((den_of (x0 ⊗ x0), x1 ⊕ x2, x3 ⊕ x4) ∷ []) (e, tt) refl
-
 pub sum_of_products-set : (ks vs : List Fraction) (c : ℕ) (l w d e : Fraction) → c < length ks → c < length vs
     → IsSame (sum_of (sum_of_products (set ks c l) (set vs c w)) (product_of (get_or ks c d) (get_or vs c e))) (sum_of (sum_of_products ks vs) (product_of l w))
 sum_of_products-set [] vs c l w d e h i = absurd (omega arith)
 sum_of_products-set (k ∷ ks) [] c l w d e h i = absurd (omega arith)
 sum_of_products-set (k ∷ ks) (v ∷ vs) zero l w d e h i = set_here k l v w (sum_of_products ks vs)
 sum_of_products-set (k ∷ ks) (v ∷ vs) (suc c) l w d e h i =
-    set_later (product_of k v) (sum_of_products (set ks c l) (set vs c w)) (product_of (get_or ks c d) (get_or vs c e)) (sum_of_products ks vs) (product_of l w)
+    sum_of_later (product_of k v) (sum_of_products (set ks c l) (set vs c w)) (product_of (get_or ks c d) (get_or vs c e)) (sum_of_products ks vs) (product_of l w)
     (sum_of_products-set ks vs c l w d e (omega arith) (omega arith))
 
 -- a value put in one place
@@ -93,5 +89,5 @@ sum_of_products-set_value [] vs c w d e h i = absurd (omega arith)
 sum_of_products-set_value (k ∷ ks) [] c w d e h i = absurd (omega arith)
 sum_of_products-set_value (k ∷ ks) (v ∷ vs) zero w d e h i = set_here k k v w (sum_of_products ks vs)
 sum_of_products-set_value (k ∷ ks) (v ∷ vs) (suc c) w d e h i =
-    set_later (product_of k v) (sum_of_products ks (set vs c w)) (product_of (get_or ks c d) (get_or vs c e)) (sum_of_products ks vs) (product_of (get_or ks c d) w)
+    sum_of_later (product_of k v) (sum_of_products ks (set vs c w)) (product_of (get_or ks c d) (get_or vs c e)) (sum_of_products ks vs) (product_of (get_or ks c d) w)
     (sum_of_products-set_value ks vs c w d e (omega arith) (omega arith))

@@ -7,6 +7,7 @@ use Rattle.std.proofs.lemmas.List.Elements.{All-head, All-tail}
 use Rattle.std.proofs.lemmas.Int.{ints}
 use Rattle.qm_math.specs.Sums.{sum_from, sum_of_each}
 use Rattle.qm_math.proofs.Products.{*ℤ-add}
+use Rattle.qm_math.proofs.Whole.{le_sum}
 
 pub sum_of_each-append : {A : Type 0} (f : A → ℤ) (xs ys : List A) → sum_of_each f (xs ++ ys) ≡ sum_of_each f xs +ℤ sum_of_each f ys
 sum_of_each-append f [] ys = sym (+ℤ_idl (sum_of_each f ys))
@@ -40,9 +41,6 @@ pub sum_of_each-same : {A : Type 0} (f g : A → ℤ) (xs : List A) → All (λ 
 sum_of_each-same f g [] e = refl
 sum_of_each-same f g (x ∷ xs) e =
     ap₂ (λ k n. k +ℤ n) (All-head (λ x. f x ≡ g x) x xs e) (sum_of_each-same f g xs (All-tail (λ x. f x ≡ g x) x xs e))
-
-le_sum : (a b c d : ℤ) → a ≤ℤ b → c ≤ℤ d → (a +ℤ c) ≤ℤ (b +ℤ d)
-le_sum a b c d h k = omega (arith, ints)
 
 pub sum_of_each-le : {A : Type 0} (f g : A → ℤ) (xs : List A) → All (λ x. f x ≤ℤ g x) xs → sum_of_each f xs ≤ℤ sum_of_each g xs
 sum_of_each-le f g [] h = omega (arith, ints)

@@ -4,7 +4,7 @@ ghost use Rattle.qm_math.specs.Fraction.{Fraction, HasPositiveDen, whole, IsAtMo
 ghost use Rattle.qm_math.specs.Arithmetic.{sum_of, product_of};
 ghost use Rattle.qm_math.specs.Sums.{sum_of_each};
 ghost use Rattle.qm_math.specs.Totals.{total_of};
-ghost use Rattle.qm_math.specs.Combinations.{value_at};
+ghost use Rattle.qm_math.specs.Combinations.{dot_product};
 ghost use Rattle.qm_math.specs.Over.{over, common_den, common_nums};
 
 /// Sums of whole numbers over lists: of lists joined, of sums and multiples, in either order, and
@@ -55,7 +55,7 @@ pub fn sums_over_one_denominator()
     ensures sum { (d : ℕ) (f : ℕ → ℤ) (xs : List ℕ) →
         IsSame (total_of (λ x. over d (f x)) xs) (over d (sum_of_each f xs)) }
     ensures row { (d : ℕ) (columns : List ℕ) (k x : ℕ → ℤ) →
-        IsSame (value_at columns (λ c. whole (k c)) (λ c. over d (x c)))
+        IsSame (dot_product columns (λ c. whole (k c)) (λ c. over d (x c)))
         (over d (sum_of_each (λ c. k c *ℤ x c) columns)) }
     ensures at_most { (d : ℕ) (m n : ℤ) → 0 < d → IsAtMost (over d m) (over d n) ↔ (m ≤ℤ n) }
     ensures common { (xs : List Fraction) →

@@ -1,6 +1,14 @@
-//! Definitions and laws of whole numbers, fractions, ranges and sums.
-//! Nothing here speaks of variables or games. Each law that other crates rest on is the contract
-//! of a function without a body.
+//! Definitions and laws of whole numbers, fractions, ranges and sums. Nothing here speaks of variables or games.
+//!
+//! Each law that other crates rest on is the contract of a function without a body. Fractions (`specs/Fraction`,
+//! `Arithmetic`) form an ordered field up to being the same number: `field`, `order`, `laws`. What is said of sums
+//! (`Sums`, `Totals`, `Over`) is in `adding`, of values over ranges (`Ranges`, `Ends`) in `boxes`, of rounding
+//! (`Rounding`) in `floors`, of finite sets (`Counts`) in `counting`.
+//! `tables` (`Combinations`, `Pivots`) has the half of Farkas' lemma that makes a combination of rows a proof: with
+//! multipliers that are not negative it bounds, and where it contradicts a box no point meets the rows. It also has
+//! the rounding of whole rows, as in the cuts of Chvátal and Gomory, and that a pivot keeps every row. `columns`
+//! (`Lexicographic`) says that pivots keep columns lexicographically negative and lower them, by which Gomory's
+//! dual method ends.
 #![tactic(auto)]
 
 mod adding;

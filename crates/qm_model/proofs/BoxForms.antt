@@ -9,6 +9,10 @@ use Rattle.qm_model.specs.Boxes.{greatest_value}
 use Rattle.qm_model.specs.Linear.{HasVarsBelow, IsOrdered, form}
 use Rattle.qm_model.proofs.Forms.{sum_over-each}
 
+-- a range that stands where a box has none
+pub no_range : Range
+no_range = record { low = pos 0; high = pos 0 }
+
 -- the value of the term's variable lies in its range
 abbrev pub IsTermIn : List Range → List ℤ → Range → Term → Type 0
 IsTermIn bx values r t = IsBetween (get_or bx t.var r).low (get_or bx t.var r).high (get_or values t.var (pos 0))

@@ -13,7 +13,7 @@ use Rattle.qm_model.specs.Linear.{IsOrdered, IsOrderedFrom, HasVarsBelow, coeffi
 pub coefficient-other : (t : Term) (ts : List Term) (var : ℕ) → t.var ≢ var → coefficient (t ∷ ts) var ≡ coefficient ts var
 coefficient-other t ts var h = grind (arith, nat_tests)
 
-coefficient-same : (t : Term) (ts : List Term) (var : ℕ) → t.var ≡ var → coefficient (t ∷ ts) var ≡ t.coef +ℤ coefficient ts var
+pub coefficient-same : (t : Term) (ts : List Term) (var : ℕ) → t.var ≡ var → coefficient (t ∷ ts) var ≡ t.coef +ℤ coefficient ts var
 coefficient-same t ts var h = grind (arith, nat_tests)
 
 -- terms of later variables give nothing
@@ -22,7 +22,7 @@ coefficient-later [] least var order h = refl
 coefficient-later (t ∷ ts) least var order h =
     coefficient-other t ts var (omega (arith, order.0)) ∙ coefficient-later ts (suc t.var) var order.2 (omega (arith, order.0))
 
-IsOrderedFrom-weaker : (ts : List Term) (least more : ℕ) → least ≤ more → IsOrderedFrom more ts → IsOrderedFrom least ts
+pub IsOrderedFrom-weaker : (ts : List Term) (least more : ℕ) → least ≤ more → IsOrderedFrom more ts → IsOrderedFrom least ts
 IsOrderedFrom-weaker [] least more h order = tt
 IsOrderedFrom-weaker (t ∷ ts) least more h order = (omega (arith, order.0), order.1, order.2)
 

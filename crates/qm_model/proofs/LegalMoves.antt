@@ -14,7 +14,7 @@ use Rattle.qm_model.proofs.Legality.{legal_of_play, parts_within, play_of_legal}
 
 -- ---- the universal values of a prefix with one more value
 
-universal_part-none : (xs : List Var) → universal_part xs [] ≡ []
+pub universal_part-none : (xs : List Var) → universal_part xs [] ≡ []
 universal_part-none [] = refl
 universal_part-none (x ∷ xs) = refl
 

@@ -1,22 +1,16 @@
 -- The test of a prefix passes exactly where some universal play agrees with it.
-use Rattle.std.proofs.Common.{◌≡◌, true, List, [], ◌∷◌, ◌++◌, length, get_or, drop, All, arith, refl, sym, subst, append-nil, append_assoc, ℤ, ◌≤ℤ◌}
+use Rattle.std.proofs.Common.{◌≡◌, true, List, [], ◌∷◌, ◌++◌, length, get_or, drop, All, refl, sym, subst, append-nil, append_assoc, ℤ}
 use Rattle.std.specs.Prelude.{◌&&◌, int_le}
 use Rattle.std.specs.List.{list_all}
-use Rattle.std.proofs.lemmas.Int.{ints}
 use Rattle.std.proofs.lemmas.Bool.{and_from, and_parts}
 use Rattle.std.proofs.lemmas.List.Sums.{AllPass-from_list_all, list_all-from_AllPass}
 use Rattle.qm_math.proofs.Searches.{some_between_found, some_between_holds}
+use Rattle.qm_math.proofs.WholeTests.{le_of_test, test_of_le}
 use Rattle.qm_model.specs.declared.variable.Var.{Var}
 use Rattle.qm_model.specs.declared.game.Problem.{Problem}
 use Rattle.qm_model.specs.Linear.{form}
 use Rattle.qm_model.specs.Plays.{AreWithin, BeginWithin, HoldsAt, spread, universal_vars, whole_vars}
 use Rattle.qm_model.specs.Legal.{AgreesWithPlay, IsLegal, begin_within, can_complete, holds_at, is_legal, universal_part}
-
-le_of_test : (a b : ℤ) → int_le a b ≡ true → a ≤ℤ b
-le_of_test a b e = grind (arith, ints)
-
-test_of_le : (a b : ℤ) → a ≤ℤ b → int_le a b ≡ true
-test_of_le a b h = grind (arith, ints)
 
 -- the bounds of the first values, as a test and as a fact
 within_of_test : (xs : List Var) (us : List ℤ) → begin_within xs us ≡ true → BeginWithin xs us

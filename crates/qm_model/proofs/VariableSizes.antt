@@ -19,6 +19,7 @@ use Rattle.qm_model.specs.Linear.{IsOrdered, HasVarsBelow, coefficient, sum_over
 use Rattle.qm_model.specs.Sizes.{reach_in_box, terms_size}
 use Rattle.qm_model.proofs.Forms.{sum_of_terms}
 use Rattle.qm_model.proofs.TermSums.{sum_over-sum_at}
+use Rattle.qm_model.proofs.BoxForms.{no_range}
 
 -- each coefficient's magnitude times how far its variable reaches, added up for the variables from `first` on
 abbrev pub sizes_from : (ℕ → ℤ) → ℕ → List Range → ℕ
@@ -33,10 +34,6 @@ size_part k r = pos (unsigned_abs k * reach r.low r.high)
 no_part : (r : Range) → size_part (pos 0) r ≡ pos 0
 no_part r = ap pos (zero-mul (reach r.low r.high))
 
--- a range that stands where a variable has none
-any_range : Range
-any_range = record { low = pos 0; high = pos 0 }
-
 -- the sizes as a sum over all variables
 sizes_sum : (k : ℕ → ℤ) (ts : List Term) → ((var : ℕ) → unsigned_abs (k var) ≡ unsigned_abs (coefficient ts var)) → (first : ℕ) (bx : List Range)
     → pos (sizes_from k first bx) ≡ sum_over size_part ts first bx
@@ -45,15 +42,15 @@ sizes_sum k ts same first (r ∷ bx) =
     ap₂ (λ (m : ℕ) (z : ℤ). pos (m * reach r.low r.high) +ℤ z) (same first) (sizes_sum k ts same (suc first) bx)
 
 -- the sum over the terms is their size
-terms_sum : (ts : List Term) (bx : List Range) → HasVarsBelow (length bx) ts → sum_of_terms size_part any_range ts 0 bx ≡ pos (terms_size (reach_in_box bx) ts)
+terms_sum : (ts : List Term) (bx : List Range) → HasVarsBelow (length bx) ts → sum_of_terms size_part no_range ts 0 bx ≡ pos (terms_size (reach_in_box bx) ts)
 terms_sum [] bx below = refl
 terms_sum (t ∷ ts) bx below =
     let place : t.var - 0 ≡ t.var = omega arith in
-    let range = slice_get-get_or bx t.var any_range (All-head (λ (u : Term). u.var < length bx) t ts below) in
-    let first : reach_in_box bx t.var ≡ reach (get_or bx t.var any_range).low (get_or bx t.var any_range).high =
+    let range = slice_get-get_or bx t.var no_range (All-head (λ (u : Term). u.var < length bx) t ts below) in
+    let first : reach_in_box bx t.var ≡ reach (get_or bx t.var no_range).low (get_or bx t.var no_range).high =
     ap (λ o. option_map_or (λ (r : Range). reach r.low r.high) o 1) range in
     let rest = terms_sum ts bx (All-tail (λ (u : Term). u.var < length bx) t ts below) in
-    ap (λ (i : ℕ). size_part t.coef (get_or bx i any_range) +ℤ sum_of_terms size_part any_range ts 0 bx) place
+    ap (λ (i : ℕ). size_part t.coef (get_or bx i no_range) +ℤ sum_of_terms size_part no_range ts 0 bx) place
     ∙ ap₂ (λ (m : ℕ) (z : ℤ). pos (unsigned_abs t.coef * m) +ℤ z) (sym first) rest
     ∙ sym (ap pos (sum_by-cons (λ (u : Term). unsigned_abs u.coef * reach_in_box bx u.var) t ts))
 
@@ -62,22 +59,22 @@ pub sizes-terms_size : (k : ℕ → ℤ) (ts : List Term) (bx : List Range) → 
     → sizes_from k 0 bx ≡ terms_size (reach_in_box bx) ts
 sizes-terms_size k ts bx same order below =
     let e : pos (sizes_from k 0 bx) ≡ pos (terms_size (reach_in_box bx) ts) =
-    sizes_sum k ts same 0 bx ∙ sum_over-sum_at size_part any_range (λ (r : Range). reach r.low r.high) (λ r. no_part r) ts bx order below ∙ terms_sum ts bx below in
+    sizes_sum k ts same 0 bx ∙ sum_over-sum_at size_part no_range (λ (r : Range). reach r.low r.high) (λ r. no_part r) ts bx order below ∙ terms_sum ts bx below in
     omega (arith, ints, e)
 
 -- ---- no coefficient is greater than the size of the terms
 
-one_more : (b : Bool) (k c : ℤ) (here rest : ℕ) → unsigned_abs k ≤ here → unsigned_abs c ≤ rest
+unsigned_abs-if_added : (b : Bool) (k c : ℤ) (here rest : ℕ) → unsigned_abs k ≤ here → unsigned_abs c ≤ rest
     → unsigned_abs (let z : ℤ = if b then k +ℤ c else c in z) ≤ here + rest
-one_more true k c here rest h g = omega (arith, ints)
-one_more false k c here rest h g = omega arith
+unsigned_abs-if_added true k c here rest h g = omega (arith, ints)
+unsigned_abs-if_added false k c here rest h g = omega arith
 
 pub coefficient_size : (reach_of : ℕ → ℕ) → ((var : ℕ) → 1 ≤ reach_of var) → (ts : List Term) (var : ℕ) → unsigned_abs (coefficient ts var) ≤ terms_size reach_of ts
 coefficient_size reach_of some [] var = omega arith
 coefficient_size reach_of some (t ∷ ts) var =
     let times = mul-le-mul_left (unsigned_abs t.coef) (some t.var) in
     let here : unsigned_abs t.coef ≤ unsigned_abs t.coef * reach_of t.var = omega (arith, times) in
-    let both = one_more (t.var == var) t.coef (coefficient ts var) (unsigned_abs t.coef * reach_of t.var) (terms_size reach_of ts) here (coefficient_size reach_of some ts var) in
+    let both = unsigned_abs-if_added (t.var == var) t.coef (coefficient ts var) (unsigned_abs t.coef * reach_of t.var) (terms_size reach_of ts) here (coefficient_size reach_of some ts var) in
     omega (arith, both, sum_by-cons (λ (u : Term). unsigned_abs u.coef * reach_of u.var) t ts)
 
 -- each range of a box reaches at least 1

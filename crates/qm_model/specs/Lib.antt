@@ -1,5 +1,6 @@
 pub mod Linear
 pub mod Sizes
+pub mod Ranges
 pub mod Boxes
 pub mod Plays
 pub mod Legal

@@ -1,3 +1,4 @@
+use qm_io::Memory;
 use smallvec::SmallVec;
 use std::alloc::Global;
 use std::default::MadeWith;
@@ -8,6 +9,16 @@ use std::marker::Model;
 pub struct Term {
     pub var: u32,
     pub coef: i128,
+}
+
+impl Term {
+    ghost use Rattle.std.specs.Prelude.{◌≡◌};
+
+    pub fn new(var: u32, coef: i128) -> Term
+        ensures { result ≡ record { var = var; coef = coef } }
+    {
+        Term { var, coef }
+    }
 }
 
 impl MadeWith<Global> for Term {
@@ -36,7 +47,7 @@ impl Model for Terms {
 }
 
 impl Terms {
-    ghost use Rattle.std.specs.Prelude.{◌≡◌};
+    ghost use Rattle.std.specs.Prelude.{◌≡◌, [], IfOk};
     ghost use Rattle.qm_model.specs.Linear.{IsOrdered};
 
     /// These terms, which stand in game order already.
@@ -45,6 +56,21 @@ impl Terms {
         ensures { result ≡ items.items }
     {
         Terms { items }
+    }
+
+    /// No terms.
+    pub fn none(alloc: Global) -> Terms
+        ensures { result ≡ [] }
+    {
+        Terms::new(SmallVec::new(alloc))
+    }
+
+    /// A copy of these terms, which stand in game order already. `Memory`, where there is none for them.
+    pub fn of(alloc: Global, items: &[Term]) -> Result<Terms, Memory>
+        requires { IsOrdered items.now }
+        ensures { IfOk result (λ terms. terms ≡ items.now) }
+    {
+        Ok(Terms::new(SmallVec::from_slice(alloc, items)?))
     }
 
     pub fn as_slice(&self) -> &[Term]
@@ -60,4 +86,20 @@ impl Terms {
 pub struct Row {
     pub terms: Terms,
     pub right: i128,
+}
+
+impl Row {
+    ghost use Rattle.std.specs.Prelude.{◌≡◌, IfOk};
+    ghost use Rattle.qm_model.specs.Linear.{IsOrdered};
+
+    /// The row of a copy of these terms, which stand in game order already. `Memory`, where there is none for them.
+    pub fn of(alloc: Global, items: &[Term], right: i128) -> Result<Row, Memory>
+        requires { IsOrdered items.now }
+        ensures { IfOk result (λ row. row ≡ record { terms = items.now; right = right }) }
+    {
+        Ok(Row {
+            terms: Terms::of(alloc, items)?,
+            right,
+        })
+    }
 }

@@ -16,3 +16,27 @@ pub struct Var {
     pub low: i64,
     pub high: i64,
 }
+
+impl Var {
+    ghost use Rattle.std.specs.Prelude.{◌≡◌, pos, true};
+
+    /// A variable with the values 0 and 1.
+    pub fn binary(name: List<u8>, player: Player) -> Var
+        ensures { result ≡ record { name = name; player = player; whole = true; low = pos 0; high = pos 1 } }
+    {
+        Var::whole_to(name, player, 1)
+    }
+
+    /// A variable with the whole values from 0 to `high`.
+    pub fn whole_to(name: List<u8>, player: Player, high: i64) -> Var
+        ensures { result ≡ record { name = name; player = player; whole = true; low = pos 0; high = high } }
+    {
+        Var {
+            name,
+            player,
+            whole: true,
+            low: 0,
+            high,
+        }
+    }
+}

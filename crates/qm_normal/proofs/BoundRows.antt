@@ -5,10 +5,12 @@ use Rattle.std.proofs.Math.IntN.{zero-*ℤ}
 use Rattle.std.proofs.lemmas.Bool.Decides.{Decides-eqb}
 use Rattle.std.proofs.lemmas.Int.{ints}
 use Rattle.std.proofs.lemmas.List.Elements.{All-append, All-cons, All-head, All-nil, All-same, All-tail}
+use Rattle.std.proofs.lemmas.Option.{cond_some}
 use Rattle.qm_math.specs.Fraction.{Fraction, IsAtMost}
 use Rattle.qm_math.specs.Over.{over}
 use Rattle.qm_math.proofs.Polynomials.{number, ◌⊕◌, ◌⊗◌, minus}
 use Rattle.qm_math.proofs.Ring.{x0, x1, ring}
+use Rattle.qm_math.proofs.Lists.{all_left, all_right}
 use Rattle.qm_frac.specs.Arithmetic.{ceil_of, floor_of}
 use Rattle.qm_model.specs.declared.row.Row.{Row}
 use Rattle.qm_model.specs.declared.row.Term.{Term}
@@ -26,8 +28,7 @@ use Rattle.qm_normal.specs.Rows.{bound_row, high_row, is_narrow, low_row}
 use Rattle.qm_normal.specs.Variables.{high_of, is_whole, low_of, name_of, var_of, vars_of}
 use Rattle.qm_normal.proofs.BoundsWritten.{exact_lower, exact_upper, outward_lower, outward_upper, whole_lower, whole_upper}
 use Rattle.qm_normal.proofs.NormalBounds.{HasProperEnds, high_coef, low_coef}
-use Rattle.qm_normal.proofs.NormalSteps.{bind-ok, chosen_some, narrow-ok, same_ok}
-use Rattle.qm_normal.proofs.NormalVars.{all_left, all_right}
+use Rattle.qm_normal.proofs.NormalSteps.{bind-ok, narrow-ok, same_ok}
 
 -- ---- rows of one term
 
@@ -57,7 +58,7 @@ high_holds den var u values n some below is =
 
 added_cases : (is_whole is_small : Bool) (row : Row) (rows : List Row) → cond is_whole (Some []) (cond is_small (Some (row ∷ [])) None) ≡ Some rows → (is_whole ≡ true) ⊎ (row ∷ [] ≡ rows)
 added_cases true is_small row rows h = inl refl
-added_cases false is_small row rows h = inr (chosen_some is_small (row ∷ []) rows h).1
+added_cases false is_small row rows h = inr (cond_some is_small (row ∷ []) rows h).1
 
 nothing_added : (is_whole is_small : Bool) (row : Row) (rows : List Row) → is_whole ≡ true → cond is_whole (Some []) (cond is_small (Some (row ∷ [])) None) ≡ Some rows → [] ≡ rows
 nothing_added true is_small row rows e h = cc

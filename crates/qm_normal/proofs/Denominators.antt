@@ -1,6 +1,6 @@
 -- The least common denominator, from the last value on.
-use Rattle.std.proofs.Common.{◌≡◌, ℕ, ◌+◌, ◌*◌, ◌/◌, ◌<◌, ◌≤◌, ◌^◌, ◌-◌, List, ◌∷◌, length, drop, get_or, Option, Some, None, refl, sym, ap, ◌∙◌, subst, arith, mul_comm}
-use Rattle.std.specs.Prelude.{IfSome, SomeIff}
+use Rattle.std.proofs.Common.{◌≡◌, ℕ, ◌+◌, ◌*◌, ◌/◌, ◌<◌, ◌≤◌, ◌^◌, ◌-◌, List, ◌∷◌, length, drop, get_or, Option, Some, refl, sym, ap, ◌∙◌, subst, arith, mul_comm}
+use Rattle.std.specs.Prelude.{SomeIff}
 use native.Mathlib.Nat.{div-mul_cancel, le_of_dvd, pos_of_dvd_of_pos}
 use Rattle.std.proofs.Math.Nat.{mul-le-mul_left}
 use Rattle.std.proofs.lemmas.List.{at_drop_more, at_drop_all}
@@ -24,10 +24,6 @@ multiple_at_least a b some =
 -- where the one number is too great, so is the multiple
 pub multiple_too_great : (a b most : ℕ) → 0 < a → ¬ (b ≤ most) → ¬ (common_multiple a b ≤ most)
 multiple_too_great a b most some great le = great (omega (arith, le, multiple_at_least a b some))
-
-pub limit_kept : (o : Option ℕ) (n most : ℕ) → SomeIff o (n ≤ most) n → IfSome o (λ d. d ≤ most)
-limit_kept None n most h = tt
-limit_kept (Some d) n most h = omega (arith, h.0, h.1)
 
 pub denominator-nil : (values : List Fraction) (i : ℕ) → length values ≤ i → common_denominator (drop i values) ≡ 1
 unfolding common_denominator
@@ -58,18 +54,6 @@ denominator_turn values done value o inside is h =
 
 pub denominator_start : (values : List Fraction) → SomeIff (Some 1) (common_denominator (drop (length values) values) ≤ 2 ^ 126) (common_denominator (drop (length values) values))
 denominator_start values = subst (λ (d : ℕ). SomeIff (Some 1) (d ≤ 2 ^ 126) d) (sym (denominator-nil values (length values) (omega arith))) (omega arith, refl)
-
-pub denominator_all : (values : List Fraction) (done : ℕ) (o : Option ℕ) → length values ≤ done
-    → SomeIff o (common_denominator (drop (length values - done) values) ≤ 2 ^ 126) (common_denominator (drop (length values - done) values))
-    → SomeIff o (common_denominator values ≤ 2 ^ 126) (common_denominator values)
-denominator_all values done o end h =
-    let none : length values - done ≡ 0 = omega (arith, end) in
-    subst (λ (k : ℕ). SomeIff o (common_denominator (drop k values) ≤ 2 ^ 126) (common_denominator (drop k values))) none h
-
--- where the other number is at most 2 ^ 126, and where it isn't
-pub some_multiple : (a d other : ℕ) (o : Option ℕ) → SomeIff o (common_multiple a other ≤ 2 ^ 126) (common_multiple a other) → SomeIff (Some other) (d ≤ 2 ^ 126) d
-    → SomeIff o (common_multiple a d ≤ 2 ^ 126) (common_multiple a d)
-some_multiple a d other o made h = subst (λ (n : ℕ). SomeIff o (common_multiple a n ≤ 2 ^ 126) (common_multiple a n)) h.1 made
 
 pub none_multiple : (a d : ℕ) → 0 < a → ¬ (d ≤ 2 ^ 126) → ¬ (common_multiple a d ≤ 2 ^ 126)
 none_multiple a d some great = multiple_too_great a d (2 ^ 126) some great

@@ -9,7 +9,7 @@ use Rattle.qm_parse.specs.declared.ast.Ast.{Ast}
 use Rattle.qm_parse.specs.declared.ast.Named.{Named}
 use Rattle.qm_parse.proofs.FirstSuch.{first_such-here, first_such-later}
 use Rattle.qm_normal.specs.Limits.{domain_fault, fits_domain, large_domain, variables_fault}
-use Rattle.qm_normal.specs.Tables.{IsEndsOf, IsRolesOf, var_by}
+use Rattle.qm_normal.specs.TableSteps.{IsEndsOf, IsRolesOf, var_by}
 use Rattle.qm_normal.specs.Variables.{game_order, is_whole, var_of}
 use Rattle.qm_normal.specs.declared.ends.Ends.{Ends}
 use Rattle.qm_normal.specs.declared.fault.NormalFault.{NormalFault}

@@ -5,7 +5,7 @@ use Rattle.std.proofs.lemmas.List.{at_drop_more, at_drop_all}
 use Rattle.qm_parse.specs.declared.ast.Ast.{Ast}
 use Rattle.qm_parse.specs.declared.ast.Named.{Named}
 use Rattle.qm_normal.specs.Scopes.{followed_by_universal}
-use Rattle.qm_normal.specs.Tables.{IsRolesOf, universal_by, whole_by}
+use Rattle.qm_normal.specs.TableSteps.{IsRolesOf, universal_by, whole_by}
 use Rattle.qm_normal.specs.Variables.{is_universal, is_whole}
 use Rattle.qm_normal.specs.declared.roles.Roles.{Roles}
 

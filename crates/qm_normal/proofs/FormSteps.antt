@@ -19,7 +19,7 @@ use Rattle.qm_normal.specs.declared.fault.Which.{Which}
 use Rattle.qm_normal.specs.declared.fault.Which.TheVariants as which
 use Rattle.qm_normal.specs.declared.objective.Objective.{Objective}
 use Rattle.qm_normal.specs.Limits.{rows_fault}
-use Rattle.qm_normal.specs.Normal.{bind, bound_rows_from, maximised, narrow, objective_from, objective_of, objective_times, problem_form, problem_with, rows_from, rows_of, scaled_objective, unless, urows_of, with_front}
+use Rattle.qm_normal.specs.Normal.{bind, bound_rows_from, maximised, narrow, objective_from, objective_form, objective_times, problem_form, problem_with, rows_from, rows_of, scaled_objective, unless, urows_of, with_front}
 use Rattle.qm_normal.specs.Rows.{common_denominator, is_constant, narrow_row, normal_row, related, total, totals}
 use Rattle.qm_normal.specs.Variables.{continuous_names, game_order, vars_of, whole_names}
 
@@ -109,6 +109,6 @@ maximised_max sense terms is = ap (λ (s : Sense). maximised s terms) is
 -- ---- the problem
 
 -- rows, uncertainty rows and the objective make the problem
-pub problem_of_parts : (ast : Ast) (rows urows : List Row) (objective : Objective) → rows_of ast ≡ Ok rows → urows_of ast ≡ Ok urows → objective_of ast ≡ Ok objective → rows_fault rows urows ≡ None → problem_form ast ≡ Ok (problem_with ast rows urows objective)
+pub problem_of_parts : (ast : Ast) (rows urows : List Row) (objective : Objective) → rows_of ast ≡ Ok rows → urows_of ast ≡ Ok urows → objective_form ast ≡ Ok objective → rows_fault rows urows ≡ None → problem_form ast ≡ Ok (problem_with ast rows urows objective)
 problem_of_parts ast rows urows objective r u o fits =
-    bind_Ok (rows_of ast) _ rows r ∙ bind_Ok (urows_of ast) _ urows u ∙ bind_Ok (objective_of ast) _ objective o ∙ unless_None (rows_fault rows urows) _ fits
+    bind_Ok (rows_of ast) _ rows r ∙ bind_Ok (urows_of ast) _ urows u ∙ bind_Ok (objective_form ast) _ objective o ∙ unless_None (rows_fault rows urows) _ fits

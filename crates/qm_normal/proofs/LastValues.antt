@@ -7,7 +7,7 @@ use Rattle.qm_parse.specs.declared.ast.Ast.{Ast}
 use Rattle.qm_parse.specs.declared.ast.AstBound.{AstBound}
 use Rattle.qm_parse.specs.declared.ast.Relation.{Relation}
 use Rattle.qm_normal.specs.Ends.{last_value, later, sets_lower, value_for}
-use Rattle.qm_normal.specs.Tables.{IsEndsOf, Notes, value_by}
+use Rattle.qm_normal.specs.TableSteps.{IsEndsOf, Notes, value_by}
 use Rattle.qm_normal.specs.declared.ends.Ends.{Ends}
 use Rattle.qm_normal.specs.declared.latest.Latest.{Latest}
 

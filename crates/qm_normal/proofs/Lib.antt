@@ -9,6 +9,7 @@ pub mod NearEnds
 pub mod PlaceTables
 pub mod TermPlaces
 pub mod SumsSoFar
+pub mod MaximisedTerms
 pub mod TermSteps
 pub mod Denominators
 pub mod RowSizes
@@ -35,7 +36,6 @@ pub mod ValuesNamed
 pub mod ProperParts
 pub mod ProperTexts
 pub mod ProperSymbols
-pub mod BoundTables
 pub mod ProblemParts
 pub mod OrderSizes
 pub mod TreesOfTexts

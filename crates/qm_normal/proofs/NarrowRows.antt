@@ -1,7 +1,7 @@
 -- When a row is too wide, and the numbers of one that isn't.
-use Rattle.std.proofs.Common.{◌≡◌, ◌<◌, ◌≤◌, ◌^◌, true, false, List, ◌∷◌, Some, None, sym, leb, arith, unsigned_abs}
+use Rattle.std.proofs.Common.{◌≡◌, ◌<◌, ◌≤◌, ◌^◌, false, List, ◌∷◌, Some, None, sym, leb, arith, unsigned_abs}
 use Rattle.std.specs.Prelude.{All}
-use Rattle.std.proofs.lemmas.Bool.{le-leb, leb-true, and_from, and_left, and_right, cond-false, cond-true, false_from_ne_true}
+use Rattle.std.proofs.lemmas.Bool.{leb-true, and_left, and_right, cond-false, false_from_ne_true}
 use Rattle.qm_math.specs.Fraction.{Fraction}
 use Rattle.qm_model.specs.declared.variable.Var.{Var}
 use Rattle.qm_model.specs.Sizes.{reach_in_vars, row_size}
@@ -27,22 +27,9 @@ wide_by_size vars sums right great =
     let test : leb size (2 ^ 126) ≡ false = false_from_ne_true (leb size (2 ^ 126)) (λ e. great (leb-true size (2 ^ 126) e)) in
     refused vars sums right (and_right (leb d (2 ^ 126)) (leb size (2 ^ 126)) test)
 
-pub wide_by_right : (vars : List Var) (sums : List Fraction) (right : Fraction) → ¬ (unsigned_abs (times (common_denominator (right ∷ sums)) right) < 2 ^ 127) → None ≡ narrow_row vars sums right
-wide_by_right vars sums right great = wide_by_size vars sums right (λ le. great (omega (arith, le)))
-
 pub wide_by_terms : (vars : List Var) (sums : List Fraction) (right : Fraction) → ¬ All (λ sum. unsigned_abs (times (common_denominator (right ∷ sums)) sum) < 2 ^ 127) sums → None ≡ narrow_row vars sums right
 wide_by_terms vars sums right great =
     let d = common_denominator (right ∷ sums) in
     let size = row_size (reach_in_vars vars) (row_times d sums right) in
     wide_by_size vars sums right
     (λ le. great (λ k e inside. let here = within_size (reach_in_vars vars) (one_le_reach vars) d 0 sums k e inside in omega (arith, le, here)))
-
-pub narrow_row_is : (vars : List Var) (sums : List Fraction) (right : Fraction) → common_denominator (right ∷ sums) ≤ 2 ^ 126
-    → row_size (reach_in_vars vars) (row_times (common_denominator (right ∷ sums)) sums right) ≤ 2 ^ 126
-    → Some (row_times (common_denominator (right ∷ sums)) sums right) ≡ narrow_row vars sums right
-narrow_row_is vars sums right den size =
-    let d = common_denominator (right ∷ sums) in
-    let row = row_times d sums right in
-    let test : is_narrow vars d row ≡ true =
-    and_from (leb d (2 ^ 126)) (leb (row_size (reach_in_vars vars) row) (2 ^ 126)) (le-leb d (2 ^ 126) den) (le-leb (row_size (reach_in_vars vars) row) (2 ^ 126) size) in
-    sym (cond-true (is_narrow vars d row) (Some row) None test)

@@ -1,7 +1,7 @@
 -- Bounds that fit a domain are near 0.
 use Rattle.std.proofs.Common.{◌≡◌, ℕ, ℤ, ◌≤◌, ◌^◌, Bool, true, false, not, ◌&&◌, ◌||◌, unsigned_abs, pos, refl, rules}
 use Rattle.std.specs.Prelude.{◌-ℤ◌, IsTrue, int_le, nat_le}
-use Rattle.qm_normal.specs.Tables.{fits_between}
+use Rattle.qm_normal.specs.TableSteps.{fits_between}
 
 first_of : (a b : Bool) → (a && b) ≡ true → a ≡ true
 first_of true b both = refl

@@ -10,7 +10,7 @@ use Rattle.qm_math.specs.Fraction.{Fraction}
 use Rattle.qm_model.specs.declared.row.Term.{Term}
 use Rattle.qm_model.specs.Linear.{IsOrderedFrom}
 use Rattle.qm_normal.specs.Rows.{nonzero_from, times}
-use Rattle.qm_normal.specs.Widths.{HasNarrowTerms}
+use Rattle.qm_normal.specs.RowSteps.{HasNarrowTerms}
 
 abbrev in_front : ℕ → ℤ → List ℤ → Bool → List Term
 in_front n k ks is_zero = cond is_zero (nonzero_from (suc n) ks) (record { var = n; coef = k } ∷ nonzero_from (suc n) ks)

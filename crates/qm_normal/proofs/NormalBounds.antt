@@ -2,6 +2,7 @@
 use Rattle.std.proofs.Common.{◌≡◌, ◌≢◌, cond, ℕ, zero, suc, ◌+◌, ◌<◌, ◌≤◌, eqb, Bool, true, false, List, [], ◌∷◌, ◌++◌, length, sym, ap, arith, pos, neg_ℤ, unsigned_abs, Ok, Some, None}
 use Rattle.std.specs.Prelude.{All}
 use Rattle.std.proofs.lemmas.List.Elements.{All-append, All-cons, All-head, All-nil, All-same, All-tail}
+use Rattle.std.proofs.lemmas.Option.{cond_some}
 use Rattle.qm_math.specs.Fraction.{Fraction}
 use Rattle.qm_model.specs.declared.row.Row.{Row}
 use Rattle.qm_model.specs.declared.row.Term.{Term}
@@ -14,7 +15,7 @@ use Rattle.qm_normal.specs.Ends.{lower_end, upper_end}
 use Rattle.qm_normal.specs.Normal.{bound_rows_from, narrow, rows_of_bounds}
 use Rattle.qm_normal.specs.Rows.{bound_row, high_row, is_narrow, low_row}
 use Rattle.qm_normal.specs.Variables.{name_of, vars_of}
-use Rattle.qm_normal.proofs.NormalSteps.{bind-ok, chosen_some, narrow-ok, narrow_sizes, same_ok}
+use Rattle.qm_normal.proofs.NormalSteps.{bind-ok, narrow-ok, narrow_sizes, same_ok}
 
 -- both ends of a variable are over positive denominators
 pub record HasProperEnds (ast : Ast) (named : Named) : Type 0 where
@@ -45,7 +46,7 @@ IsRowOver-high xs var bound below some small = record {
 added_or_not : (Q : Row → Type 0) (is_whole is_small : Bool) (row : Row) (rows : List Row) → (is_small ≡ true → Q row) → cond is_whole (Some []) (cond is_small (Some (row ∷ [])) None) ≡ Some rows → All Q rows
 added_or_not Q true is_small row rows holds h = let e : [] ≡ rows = cc in All-same Q rows [] (sym e) (All-nil Q)
 added_or_not Q false is_small row rows holds h =
-    let made = chosen_some is_small (row ∷ []) rows h in
+    let made = cond_some is_small (row ∷ []) rows h in
     All-same Q rows (row ∷ []) (sym made.1) (All-cons Q row [] (holds made.0) (All-nil Q))
 
 -- what holds of the row of a bound where it is narrow holds of what is added

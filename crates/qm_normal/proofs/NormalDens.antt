@@ -3,6 +3,7 @@ use Rattle.std.proofs.Common.{◌≡◌, cond, ℕ, ◌<◌, eqb, Bool, true, fa
 use Rattle.std.specs.Prelude.{All, IfSome, unwrap_or}
 use native.Mathlib.Nat.{mul-pos}
 use Rattle.std.proofs.lemmas.List.Elements.{All-cons, All-head, All-map, All-nil, All-same, All-tail}
+use Rattle.std.proofs.lemmas.Bool.{cond_both}
 use Rattle.qm_math.specs.Fraction.{Fraction, HasPositiveDen, is_below, whole}
 use Rattle.qm_frac.specs.Arithmetic.{negated}
 use Rattle.qm_frac.specs.Checked.{added, and_then}
@@ -59,10 +60,6 @@ maximised_proper Min terms all = All-map IsProperTerm (λ (term : AstTerm). reco
 
 -- ---- bounds
 
-either : {A : Type 0} (P : A → Type 0) (b : Bool) (one other : A) → P one → P other → P (cond b one other)
-either P true one other a c = a
-either P false one other a c = c
-
 later_den : (a b : Option Fraction) → IfSome a HasPositiveDen → IfSome b HasPositiveDen → IfSome (later a b) HasPositiveDen
 unfolding later
 later_den a None p q = p
@@ -74,7 +71,7 @@ last_den sets name [] all = tt
 last_den sets name (bound ∷ bounds) all =
     let P = λ (b : AstBound). IfSome b.value HasPositiveDen in
     later_den (value_for sets name bound) (last_value sets name bounds)
-    (either (λ (o : Option Fraction). IfSome o HasPositiveDen) (eqb bound.name name && sets bound.relation) bound.value None (All-head P bound bounds all) tt)
+    (cond_both (eqb bound.name name && sets bound.relation) bound.value None (λ (o : Option Fraction). IfSome o HasPositiveDen) (λ _. All-head P bound bounds all) (λ _. tt))
     (last_den sets name bounds (All-tail P bound bounds all))
 
 or_den : (o : Option Fraction) (d : Fraction) → IfSome o HasPositiveDen → 0 < d.den → 0 < (unwrap_or o d).den
@@ -90,6 +87,6 @@ proper_ends ast named proper =
     let a = unwrap_or (last_value sets_lower name ast.bounds) (whole (pos 0)) in
     let b = unwrap_or (last_value sets_upper name ast.bounds) (whole (pos 1)) in
     record {
-      lower = either HasPositiveDen (is_binary ast name) (greater_of (whole (pos 0)) a) a (either HasPositiveDen (is_below (whole (pos 0)) a) a (whole (pos 0)) low one) low;
-      upper = either HasPositiveDen (is_binary ast name) (lesser_of (whole (pos 1)) b) b (either HasPositiveDen (is_below b (whole (pos 1))) b (whole (pos 1)) high one) high;
+      lower = cond_both (is_binary ast name) (greater_of (whole (pos 0)) a) a HasPositiveDen (λ _. cond_both (is_below (whole (pos 0)) a) a (whole (pos 0)) HasPositiveDen (λ _. low) (λ _. one)) (λ _. low);
+      upper = cond_both (is_binary ast name) (lesser_of (whole (pos 1)) b) b HasPositiveDen (λ _. cond_both (is_below b (whole (pos 1))) b (whole (pos 1)) HasPositiveDen (λ _. high) (λ _. one)) (λ _. high);
     }

@@ -5,6 +5,7 @@ use Rattle.std.proofs.lemmas.Bool.{and_parts}
 use Rattle.std.proofs.lemmas.Bool.Decides.{nat_tests}
 use Rattle.std.proofs.lemmas.List.Elements.{All-append, All-head, All-nil, All-same, All-tail}
 use Rattle.std.proofs.Common.{arith}
+use Rattle.std.proofs.lemmas.Option.{cond_some}
 use Rattle.qm_math.specs.Fraction.{Fraction}
 use Rattle.qm_frac.specs.Checked.{Checked}
 use Rattle.qm_model.specs.declared.game.Problem.{Problem}
@@ -18,7 +19,7 @@ use Rattle.qm_parse.specs.declared.ast.Named.{Named}
 use Rattle.qm_normal.specs.declared.fault.NormalFault.{NormalFault}
 use Rattle.qm_normal.specs.declared.fault.Which.{Which}
 use Rattle.qm_normal.specs.Limits.{rows_fault, variables_fault}
-use Rattle.qm_normal.specs.Normal.{Objective, bind, narrow, normal_form, objective_from, objective_of, objective_times, problem_with, rows_from, rows_of, scaled_objective, unless, urows_of}
+use Rattle.qm_normal.specs.Normal.{Objective, bind, narrow, normal_form, objective_from, objective_form, objective_times, problem_with, rows_from, rows_of, scaled_objective, unless, urows_of}
 use Rattle.qm_normal.specs.Rows.{common_denominator, is_constant, is_narrow, narrow_row, normal_row, related, row_times, total, totals}
 use Rattle.qm_normal.specs.Scopes.{scope_fault}
 use Rattle.qm_normal.specs.Variables.{game_order, vars_of}
@@ -43,11 +44,6 @@ narrow-ok part (Some y) x h = cc
 pub same_ok : {A : Type 0} (x y : A) → (let z : Result A NormalFault = Ok x in z) ≡ Ok y → x ≡ y
 same_ok x y h = cc
 
--- a choice that has something took the first way
-pub chosen_some : {A : Type 0} (b : Bool) (x y : A) → cond b (Some x) None ≡ Some y → (b ≡ true) × (x ≡ y)
-chosen_some true x y h = (refl, cc)
-chosen_some false x y h = absurd (cc)
-
 -- ---- the parts of a normal form
 
 pub record NormalParts (ast : Ast) (P : Problem) : Type 0 where
@@ -58,7 +54,7 @@ pub record NormalParts (ast : Ast) (P : Problem) : Type 0 where
   pub in_limits : variables_fault ast ≡ None
   pub rows_are : rows_of ast ≡ Ok rows
   pub urows_are : urows_of ast ≡ Ok urows
-  pub objective_is : objective_of ast ≡ Ok objective
+  pub objective_is : objective_form ast ≡ Ok objective
   pub few_rows : rows_fault rows urows ≡ None
   pub problem : problem_with ast rows urows objective ≡ P
 
@@ -68,7 +64,7 @@ normal_parts ast P h =
     let limited = unless-ok (variables_fault ast) _ P scoped.1 in
     let rows = bind-ok (rows_of ast) _ P limited.1 in
     let urows = bind-ok (urows_of ast) _ P rows.2 in
-    let objective = bind-ok (objective_of ast) _ P urows.2 in
+    let objective = bind-ok (objective_form ast) _ P urows.2 in
     let few = unless-ok (rows_fault rows.0 urows.0) _ P objective.2 in
     record {
       rows = rows.0;
@@ -101,7 +97,7 @@ pub row_parts : (vars : List Var) (order : List Named) (terms : List AstTerm) (r
 unfolding normal_row
 row_parts vars order terms right row h =
     let sums = sums_narrow vars right (totals order terms) row h in
-    let made = chosen_some (is_narrow vars (common_denominator (right ∷ sums.0)) (row_times (common_denominator (right ∷ sums.0)) sums.0 right)) (row_times (common_denominator (right ∷ sums.0)) sums.0 right) row sums.2 in
+    let made = cond_some (is_narrow vars (common_denominator (right ∷ sums.0)) (row_times (common_denominator (right ∷ sums.0)) sums.0 right)) (row_times (common_denominator (right ∷ sums.0)) sums.0 right) row sums.2 in
     record { sums = sums.0; sums_are = sums.1; narrow = made.0; row_is = made.1 }
 
 both_le : (a b n : ℕ) → (nat_le a n && nat_le b n) ≡ true → (a ≤ n) × (b ≤ n)

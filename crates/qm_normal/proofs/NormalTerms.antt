@@ -9,6 +9,7 @@ use Rattle.std.proofs.lemmas.List.Elements.{All-cons, All-map, All-nil}
 use Rattle.std.proofs.lemmas.List.Sums.{sum_by-cons}
 use Rattle.qm_math.specs.Fraction.{Fraction}
 use Rattle.qm_frac.proofs.CheckedLaws.{and_then-ok}
+use Rattle.qm_frac.proofs.SignLaws.{unsigned_abs-neg}
 use Rattle.qm_model.specs.declared.row.Row.{Row}
 use Rattle.qm_model.specs.declared.row.Term.{Term}
 use Rattle.qm_model.specs.declared.variable.Var.{Var}
@@ -89,11 +90,6 @@ IsRowOver-normal xs order terms right row long parts =
 
 -- ---- the negated row
 
-neg_size : (k : ℤ) → unsigned_abs (neg_ℤ k) ≡ unsigned_abs k
-neg_size (pos zero) = refl
-neg_size (pos (suc n)) = refl
-neg_size (negsuc n) = refl
-
 neg_zero : (k : ℤ) → neg_ℤ k ≡ pos 0 → k ≡ pos 0
 neg_zero (pos zero) h = refl
 neg_zero (pos (suc n)) h = absurd (cc)
@@ -107,14 +103,14 @@ negated_terms_size : (reach_of : ℕ → ℕ) (ts : List Term) → terms_size re
 negated_terms_size reach_of [] = refl
 negated_terms_size reach_of (t ∷ ts) =
     sum_by-cons (λ (u : Term). unsigned_abs u.coef * reach_of u.var) (negated_term t) (map negated_term ts)
-    ∙ ap₂ (λ (m n : ℕ). m * reach_of t.var + n) (neg_size t.coef) (negated_terms_size reach_of ts)
+    ∙ ap₂ (λ (m n : ℕ). m * reach_of t.var + n) (unsigned_abs-neg t.coef) (negated_terms_size reach_of ts)
     ∙ sym (sum_by-cons (λ (u : Term). unsigned_abs u.coef * reach_of u.var) t ts)
 
 pub IsRowOver-negated : (xs : List Var) (row : Row) → IsRowOver xs row → IsRowOver xs (negated_row row)
 IsRowOver-negated xs row over = record {
   ordered = negated_ordered row.terms 0 over.ordered;
   vars = All-map (λ (t : Term). t.var < length xs) negated_term row.terms over.vars;
-  size = omega (arith, over.size, neg_size row.right, negated_terms_size (reach_in_vars xs) row.terms);
+  size = omega (arith, over.size, unsigned_abs-neg row.right, negated_terms_size (reach_in_vars xs) row.terms);
 }
 
 -- what holds of a row and of its negated row holds of those of a relation

@@ -1,5 +1,5 @@
 -- The variables of the normal form, and which of them the uncertainty rows name.
-use Rattle.std.proofs.Common.{◌≡◌, ◌≢◌, cond, ℕ, zero, suc, ◌+◌, ◌<◌, ◌/◌, ◌≤◌, ◌^◌, eqb, Bool, true, false, not, ◌&&◌, List, [], ◌∷◌, ◌++◌, length, take, drop, refl, sym, ap, ◌∙◌, subst, arith, ℤ, pos, Ok, Option, Some, None, lit<}
+use Rattle.std.proofs.Common.{◌≡◌, ◌≢◌, cond, ℕ, zero, suc, ◌+◌, ◌<◌, ◌/◌, ◌≤◌, ◌^◌, eqb, Bool, true, false, not, ◌&&◌, List, [], ◌∷◌, length, take, drop, refl, sym, ap, ◌∙◌, subst, arith, ℤ, pos, Ok, Option, Some, None, lit<}
 use Rattle.std.specs.Prelude.{All, MatchOption, map, nat_le, slice_get, IsTrue}
 use Rattle.std.specs.List.{flat_map}
 use Rattle.std.specs.Ordering.{int_eq}
@@ -10,6 +10,7 @@ use Rattle.std.proofs.lemmas.List.{drop_at, length-append, length-map, take-map,
 use Rattle.std.proofs.lemmas.List.Elements.{All-cons, All-filter, All-head, All-map, All-nil, All-same, All-tail, filter_passes}
 use Rattle.std.proofs.lemmas.List.Filters.{length-filter_both}
 use Rattle.qm_math.specs.Fraction.{Fraction, whole}
+use Rattle.qm_math.proofs.Lists.{all_left, all_right}
 use Rattle.qm_frac.proofs.CheckedLaws.{and_then-ok}
 use Rattle.qm_model.specs.declared.row.Row.{Row}
 use Rattle.qm_model.specs.declared.variable.Player.{Player}
@@ -116,14 +117,6 @@ continuous_last ast h =
     All-same IsContinuous (drop (length (whole_names ast)) (vars_of ast)) (map (var_of ast) (continuous_names ast)) same (All-map IsContinuous (var_of ast) (continuous_names ast) each)
 
 -- ---- universal terms
-
-pub all_left : {A : Type 0} (P : A → Type 0) (xs ys : List A) → All P (xs ++ ys) → All P xs
-all_left P [] ys all = All-nil P
-all_left P (x ∷ xs) ys all = All-cons P x xs (All-head P x (xs ++ ys) all) (all_left P xs ys (All-tail P x (xs ++ ys) all))
-
-pub all_right : {A : Type 0} (P : A → Type 0) (xs ys : List A) → All P (xs ++ ys) → All P ys
-all_right P [] ys all = all
-all_right P (x ∷ xs) ys all = all_right P xs ys (All-tail P x (xs ++ ys) all)
 
 pub all_parts : {A B : Type 0} (Q : B → Type 0) (f : A → List B) (list : List A) → All Q (flat_map f list) → All (λ x. All Q (f x)) list
 all_parts Q f [] all = All-nil (λ x. All Q (f x))

@@ -24,6 +24,7 @@ use Rattle.qm_normal.specs.Meaning.{HasNamesInOrder, in_game_order, maximised_va
 use Rattle.qm_normal.specs.Normal.{Objective, maximised, normal_form, objective_times}
 use Rattle.qm_normal.specs.Numbers.{HasProperNumbers, IsProperTerm}
 use Rattle.qm_normal.specs.Rows.{common_denominator, is_constant, row_times, times}
+use Rattle.qm_normal.specs.SumSteps.{maximised_term}
 use Rattle.qm_normal.specs.Variables.{game_order, vars_of}
 use Rattle.qm_normal.proofs.NormalDens.{maximised_proper, total_den, totals_den}
 use Rattle.qm_normal.proofs.NormalSound.{objective_found}
@@ -88,9 +89,6 @@ objective_value ast den nums right some terms objective proper ordered parts =
 
 -- ---- the sense
 
-abbrev turned_term : AstTerm → AstTerm
-turned_term term = record { coef = negated term.coef; name = term.name; at = term.at }
-
 negated_value : (value : ℕ → Fraction) (coef : Fraction) (o : Option ℕ) → IsSame (value_by value (negated coef) o) (negated (value_by value coef o))
 unfolding math.negated
 negated_value value coef None = same_refl (negated coef)
@@ -100,17 +98,17 @@ turned_value : (value : ℕ → Fraction) (terms : List AstTerm) → IsSame (tot
 unfolding math.negated
 turned_value value terms = same_sym (negated (written_value value terms)) (total_of (λ (term : AstTerm). negated (term_value value term)) terms) (negated-total_of (term_value value) terms)
 
-negated_terms : (value : ℕ → Fraction) → HasPositiveValues value → (terms : List AstTerm) → All IsProperTerm terms → IsSame (written_value value (map turned_term terms)) (negated (written_value value terms))
+negated_terms : (value : ℕ → Fraction) → HasPositiveValues value → (terms : List AstTerm) → All IsProperTerm terms → IsSame (written_value value (map (maximised_term Min) terms)) (negated (written_value value terms))
 negated_terms value positive terms proper =
-    let each = λ (term : AstTerm). term_value value (turned_term term) in
+    let each = λ (term : AstTerm). term_value value (maximised_term Min term) in
     let turned = λ (term : AstTerm). negated (term_value value term) in
     let same : (term : AstTerm) → IsSame (each term) (turned term) =
-    λ term. subst (λ (a : Fraction). IsSame a (turned term)) (term_value_is value (turned_term term) term.name refl)
+    λ term. subst (λ (a : Fraction). IsSame a (turned term)) (term_value_is value (maximised_term Min term) term.name refl)
     (subst (λ (b : Fraction). IsSame (value_by value (negated term.coef) term.name) (negated b)) (term_value_is value term term.name refl) (negated_value value term.coef term.name)) in
     let term_den : (term : AstTerm) → 0 < term.coef.den → (o : Option ℕ) → 0 < (value_by value term.coef o).den = value_den value positive in
     let turned_den : 0 < (total_of turned terms).den =
     total_of_den turned terms (λ k d inside. let term = get_or terms k d in subst HasPositiveDen (term_value_is value term term.name refl) (term_den term (proper k d inside) term.name)) in
-    subst (λ (a : Fraction). IsSame a (negated (written_value value terms))) (sym (total_of-map (term_value value) turned_term terms))
+    subst (λ (a : Fraction). IsSame a (negated (written_value value terms))) (sym (total_of-map (term_value value) (maximised_term Min) terms))
     (same_trans (total_of each terms) (total_of turned terms) (negated (written_value value terms)) turned_den
     (total_of-same each turned terms (λ k d inside. same (get_or terms k d))) (turned_value value terms))
   where
@@ -126,7 +124,7 @@ maximised_is value positive Min terms proper = negated_terms value positive term
 maximised_ordered : (ast : Ast) (sense : Sense) (terms : List AstTerm) → HasNamesInOrder ast terms → HasNamesInOrder ast (maximised sense terms)
 unfolding maximised
 maximised_ordered ast Max terms ordered = ordered
-maximised_ordered ast Min terms ordered = All-map (λ (term : AstTerm). (name : ℕ) → term.name ≡ Some name → Has ast.order name) turned_term terms ordered
+maximised_ordered ast Min terms ordered = All-map (λ (term : AstTerm). (name : ℕ) → term.name ≡ Some name → Has ast.order name) (maximised_term Min) terms ordered
 
 pub objective_means : (ast : Ast) (P : Problem) (den : ℕ) (nums : ℕ → ℤ) → NamesRight ast → HasProperNumbers ast → HasNamesInOrder ast ast.objective → 0 < den → normal_form ast ≡ Ok P
     → IsSame (objective_over P den (in_game_order ast nums)) (maximised_value ast.sense (written_value (value_over den nums) ast.objective))

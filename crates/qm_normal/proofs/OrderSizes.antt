@@ -1,31 +1,22 @@
 -- How many names game order holds.
-use Rattle.std.proofs.Common.{◌≡◌, ◌+◌, ◌<◌, ◌^◌, List, length, ap, ◌∙◌, arith, subst, sym}
-use Rattle.std.specs.Prelude.{ℕ, None, not}
+use Rattle.std.proofs.Common.{◌≡◌, ◌<◌, ◌^◌, List, length, ap, ◌∙◌, arith, subst, sym}
+use Rattle.std.specs.Prelude.{None}
 use Rattle.std.proofs.lemmas.List.{length-map}
-use Rattle.std.proofs.lemmas.List.Elements.{All-filter}
 use Rattle.qm_parse.specs.declared.ast.Ast.{Ast}
 use Rattle.qm_parse.specs.declared.ast.Named.{Named}
 use Rattle.qm_parse.specs.Checks.{name_fault}
-use Rattle.qm_parse.specs.Known.{AreNamesBelow, HasNumbersBelow}
 use Rattle.qm_normal.specs.Limits.{variables_fault}
-use Rattle.qm_normal.specs.Places.{AreApart}
-use Rattle.qm_normal.specs.Variables.{continuous_names, game_order, is_whole, var_of, vars_of, whole_names}
+use Rattle.qm_normal.specs.PlaceSteps.{AreApart}
+use Rattle.qm_normal.specs.Variables.{game_order, var_of, vars_of}
 use Rattle.qm_parse.proofs.NameLaws.{NamesRight-from_None}
-use Rattle.qm_normal.proofs.NormalVars.{few_vars, whole_and_continuous}
+use Rattle.qm_normal.proofs.NormalVars.{few_vars}
 use Rattle.qm_normal.proofs.ValuesNamed.{game_order_once}
 
 length_same : (ast : Ast) (order : List Named) → order ≡ game_order ast → length (vars_of ast) ≡ length order
 length_same ast order is = length-map (game_order ast) (var_of ast) ∙ ap (length {A = Named}) (sym is)
 
--- the whole and the continuous names are all of them
-pub order_parts : (ast : Ast) (order : List Named) → order ≡ game_order ast → length (whole_names ast) + length (continuous_names ast) ≡ length order
-order_parts ast order is = whole_and_continuous ast ∙ length_same ast order is
-
 pub few_names : (ast : Ast) (order : List Named) → variables_fault ast ≡ None → order ≡ game_order ast → length order < 2 ^ 29
 few_names ast order none is = let few = few_vars ast none in let same = length_same ast order is in omega arith
-
-pub continuous_below : (n : ℕ) (ast : Ast) → HasNumbersBelow n ast → AreNamesBelow n (continuous_names ast)
-continuous_below n ast below = All-filter (λ (named : Named). not (is_whole ast named.name)) (λ (named : Named). named.name < n) ast.order below.order
 
 pub order_apart : (ast : Ast) (order : List Named) → name_fault ast ≡ None → order ≡ game_order ast → AreApart order
 order_apart ast order right is = subst AreApart (sym is) (game_order_once ast (NamesRight-from_None ast right))

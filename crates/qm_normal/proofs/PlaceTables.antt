@@ -8,7 +8,7 @@ use Rattle.std.proofs.lemmas.List.{map-append, take_all, take_more}
 use Rattle.std.proofs.lemmas.List.Elements.{All-nil, All-push}
 use Rattle.std.proofs.lemmas.Option.{none-some, slice_get-map}
 use Rattle.qm_parse.specs.declared.ast.Named.{Named}
-use Rattle.qm_normal.specs.Places.{IsPlacesOf, StandsAt, place_in}
+use Rattle.qm_normal.specs.PlaceSteps.{IsPlacesOf, StandsAt, place_in}
 use Rattle.qm_normal.specs.declared.places.Places.{Places}
 
 abbrev number_of : Named → ℕ

@@ -9,7 +9,7 @@ use Rattle.qm_parse.specs.declared.ast.Named.{Named}
 use Rattle.qm_parse.specs.declared.stage.NameList.{NameList}
 use Rattle.qm_parse.specs.declared.stage.NameList.TheVariants.{Generals, Binaries, Exists, All as Universal, Order}
 use Rattle.qm_parse.specs.declared.word.Symbol.{Symbol}
-use Rattle.qm_parse.specs.Parts.{Each, Part, Row, RowTerm, Terms}
+use Rattle.qm_parse.specs.Parts.{Each, Part, RowOf, RowTerm, Terms}
 use Rattle.qm_parse.specs.Reading.{empty_ast}
 use Rattle.qm_parse.specs.Texts.{IsText, SectionOf, Written, WrittenText, with_names, with_written}
 use Rattle.qm_parse.specs.Texts.Written.{Uncertain, Bounded, Listed}
@@ -32,11 +32,11 @@ terms_named [] symbols rest h = All-nil IsNamed
 terms_named (term ∷ terms) symbols rest h =
     All-cons IsNamed term terms (term_named true term symbols h.0 h.1) (each_says IsNamed (RowTerm false) (term_named false) terms h.0 rest h.2)
 
-row_plain : (row : AstRow) (symbols rest : List Symbol) → Row row symbols rest → HasNoConstant row
+row_plain : (row : AstRow) (symbols rest : List Symbol) → RowOf row symbols rest → HasNoConstant row
 row_plain row symbols rest h = terms_named row.terms h.2.0 h.2.2.0 h.2.2.1
 
-rows_plain : (rows : List AstRow) (symbols rest : List Symbol) → Each Row rows symbols rest → All HasNoConstant rows
-rows_plain rows symbols rest h = each_says HasNoConstant Row row_plain rows symbols rest h
+rows_plain : (rows : List AstRow) (symbols rest : List Symbol) → Each RowOf rows symbols rest → All HasNoConstant rows
+rows_plain rows symbols rest h = each_says HasNoConstant RowOf row_plain rows symbols rest h
 
 abbrev IsPlain : Written → Type 0
 IsPlain (Uncertain rows) = All HasNoConstant rows

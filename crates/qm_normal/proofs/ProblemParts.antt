@@ -9,7 +9,7 @@ use Rattle.qm_normal.specs.declared.fault.Which.TheVariants as which
 use Rattle.qm_normal.specs.declared.objective.Objective.{Objective}
 use Rattle.qm_normal.specs.Answers.{Gives}
 use Rattle.qm_normal.specs.Limits.{rows_fault, variables_fault}
-use Rattle.qm_normal.specs.Normal.{bind, maximised, normal_form, objective_from, objective_of, problem_form, problem_with, rows_of, unless, urows_of}
+use Rattle.qm_normal.specs.Normal.{bind, maximised, normal_form, objective_from, objective_form, problem_form, problem_with, rows_of, unless, urows_of}
 use Rattle.qm_normal.specs.Rows.{common_denominator, row_times}
 use Rattle.qm_normal.specs.Scopes.{scope_fault}
 use Rattle.qm_normal.specs.Variables.{game_order, vars_of}
@@ -52,7 +52,7 @@ abbrev with_objective : Ast → List Row → List Row → Objective → Result P
 with_objective ast rows urows objective = unless (rows_fault rows urows) (Ok (problem_with ast rows urows objective))
 
 abbrev with_urows : Ast → List Row → List Row → Result Problem NormalFault
-with_urows ast rows urows = bind (objective_of ast) (λ objective. with_objective ast rows urows objective)
+with_urows ast rows urows = bind (objective_form ast) (λ objective. with_objective ast rows urows objective)
 
 abbrev with_rows : Ast → List Row → Result Problem NormalFault
 with_rows ast rows = bind (urows_of ast) (λ urows. with_urows ast rows urows)
@@ -66,29 +66,29 @@ urows_wrong ast rows wrong result first is gives =
     gives-first (rows_of ast) rows (with_rows ast) result first (gives-returned wrong result (urows_of ast) (with_urows ast rows) is gives)
 
 pub objective_wrong : (ast : Ast) (rows urows : List Row) (wrong : NormalFault) (result : Result Problem NormalFault)
-    → rows_of ast ≡ Ok rows → urows_of ast ≡ Ok urows → result ≡ Err wrong → Gives (Err wrong) (objective_of ast) → Gives result (problem_form ast)
+    → rows_of ast ≡ Ok rows → urows_of ast ≡ Ok urows → result ≡ Err wrong → Gives (Err wrong) (objective_form ast) → Gives result (problem_form ast)
 objective_wrong ast rows urows wrong result first second is gives =
     gives-first (rows_of ast) rows (with_rows ast) result first
-    (gives-first (urows_of ast) urows (with_urows ast rows) result second (gives-returned wrong result (objective_of ast) (with_objective ast rows urows) is gives))
+    (gives-first (urows_of ast) urows (with_urows ast rows) result second (gives-returned wrong result (objective_form ast) (with_objective ast rows urows) is gives))
 
 all_parts : (ast : Ast) (rows urows : List Row) (objective : Objective)
-    → rows_of ast ≡ Ok rows → urows_of ast ≡ Ok urows → objective_of ast ≡ Ok objective → problem_form ast ≡ with_objective ast rows urows objective
+    → rows_of ast ≡ Ok rows → urows_of ast ≡ Ok urows → objective_form ast ≡ Ok objective → problem_form ast ≡ with_objective ast rows urows objective
 unfolding bind
 all_parts ast rows urows objective first second third =
     ap (λ r. bind r (with_rows ast)) first ∙ ap (λ r. bind r (with_urows ast rows)) second ∙ ap (λ r. bind r (with_objective ast rows urows)) third
 
 pub too_many : (ast : Ast) (rows urows : List Row) (objective : Objective) (wrong : NormalFault)
-    → rows_of ast ≡ Ok rows → urows_of ast ≡ Ok urows → objective_of ast ≡ Ok objective → rows_fault rows urows ≡ Some wrong → Gives (Err wrong) (problem_form ast)
+    → rows_of ast ≡ Ok rows → urows_of ast ≡ Ok urows → objective_form ast ≡ Ok objective → rows_fault rows urows ≡ Some wrong → Gives (Err wrong) (problem_form ast)
 too_many ast rows urows objective wrong first second third is =
     gives-fault wrong (problem_form ast) (all_parts ast rows urows objective first second third ∙ unless-some (rows_fault rows urows) wrong (Ok (problem_with ast rows urows objective)) is)
 
 pub problem_made : (ast : Ast) (rows urows : List Row) (objective : Objective)
-    → rows_of ast ≡ Ok rows → urows_of ast ≡ Ok urows → objective_of ast ≡ Ok objective → rows_fault rows urows ≡ None → problem_form ast ≡ Ok (problem_with ast rows urows objective)
+    → rows_of ast ≡ Ok rows → urows_of ast ≡ Ok urows → objective_form ast ≡ Ok objective → rows_fault rows urows ≡ None → problem_form ast ≡ Ok (problem_with ast rows urows objective)
 problem_made ast rows urows objective first second third is =
     all_parts ast rows urows objective first second third ∙ unless-none (rows_fault rows urows) (Ok (problem_with ast rows urows objective)) is
 
 -- the scale of an objective is a number of 128 bits with a sign
-pub narrow_scale : (ast : Ast) (objective : Objective) → objective_of ast ≡ Ok objective → objective.scale ≤ 2 ^ 126
+pub narrow_scale : (ast : Ast) (objective : Objective) → objective_form ast ≡ Ok objective → objective.scale ≤ 2 ^ 126
 narrow_scale ast objective is =
     let terms = maximised ast.sense ast.objective in
     let parts = objective_parts (vars_of ast) (game_order ast) terms objective (narrow-ok which.Objective (objective_from (vars_of ast) (game_order ast) terms) objective is) in

@@ -11,6 +11,7 @@ use Rattle.qm_parse.specs.Drafts.{one, signed_by}
 use Rattle.qm_parse.specs.Parts.{◌then◌, Each, Either, NameAt, Nothing, NothingIf, NumberAt, Part, Says, SignOf, Signed, SignedNumber, SignedTerm}
 use Rattle.qm_parse.specs.declared.word.Word.TheVariants.{Sign}
 use Rattle.qm_parse.proofs.WrittenSteps.{number_body}
+use Rattle.qm_parse.proofs.KnownRows.{second}
 
 -- the number of the word is, where it is one
 abbrev pub IsProperWord : Word → Type 0
@@ -85,9 +86,6 @@ gives-Either a b = record { given = either-given a b }
 pub gives-Each : {A : Type 0} (Item : A → Part) (P : A → Type 0) → ((item : A) → Gives (Item item) (P item)) → (items : List A) → Gives (Each Item items) (All P items)
 gives-Each Item P each [] = record { given = λ symbols rest proper same. record { proper = subst AreProper same proper; fact = All-nil P } }
 gives-Each Item P each (item ∷ items) = gives-then (each item) (gives-Each Item P each items) (λ a b. All-cons P item items a b)
-
-pub second : {A : Type 0} {B : Type 0} → A → B → B
-second a b = b
 
 pub first : {A : Type 0} {B : Type 0} → A → B → A
 first a b = a

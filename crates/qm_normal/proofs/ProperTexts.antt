@@ -18,12 +18,13 @@ use Rattle.qm_parse.specs.declared.stage.NameList.TheVariants.{Generals, Binarie
 use Rattle.qm_parse.specs.declared.word.Symbol.{Symbol}
 use Rattle.qm_parse.specs.declared.word.Word.TheVariants.{Number, Related, Colon, Keyword as Reserved, Infinite, Free}
 use Rattle.qm_parse.specs.Drafts.{turned}
-use Rattle.qm_parse.specs.Parts.{◌then◌, Bound, BoundBody, BoundEnds, Constant, Each, Either, FreeName, Further, Label, ListHeading, ListedName, Multiple, NameFirst, Objective, ObjectiveTerm, OneBound, OneOf, OptionalLabel, Part, Row, RowEnds, RowTerm, RowsHeading, Says, SenseWord, SignedNumber, Terms, Value, ValueFirst}
+use Rattle.qm_parse.specs.Parts.{◌then◌, BoundOf, BoundBody, BoundEnds, Constant, Each, Either, FreeName, Further, Label, ListHeading, ListedName, Multiple, NameFirst, ObjectiveOf, ObjectiveTerm, OneBound, OneOf, OptionalLabel, Part, RowOf, RowEnds, RowTerm, RowsHeading, Says, SenseWord, SignedNumber, Terms, Value, ValueFirst}
 use Rattle.qm_parse.specs.Reading.{empty_ast}
 use Rattle.qm_parse.specs.Texts.{IsText, SectionOf, TextOf, Written, WrittenText, with_names, with_written}
 use Rattle.qm_parse.specs.Texts.Written.{Uncertain, Bounded, Listed}
+use Rattle.qm_parse.proofs.KnownRows.{second}
 use Rattle.qm_normal.specs.Numbers.{HasProperNumbers, IsProperRow, IsProperTerm}
-use Rattle.qm_normal.proofs.ProperParts.{AreProper, Given, Gives, first, gives-Each, gives-Either, gives-NameAt, gives-Nothing, gives-NumberAt, gives-Says, gives-Signed, gives-SignedNumber, gives-SignedTerm, gives-one, gives-then, second, signed_is}
+use Rattle.qm_normal.proofs.ProperParts.{AreProper, Given, Gives, first, gives-Each, gives-Either, gives-NameAt, gives-Nothing, gives-NumberAt, gives-Says, gives-Signed, gives-SignedNumber, gives-SignedTerm, gives-one, gives-then, signed_is}
 
 -- ---- terms and rows
 
@@ -68,7 +69,7 @@ gives-SenseWord : (sense : Sense) → Gives (SenseWord sense) (Unit {0})
 gives-SenseWord Max = gives-OneOf keyword.Maximize keyword.Max
 gives-SenseWord Min = gives-OneOf keyword.Minimize keyword.Min
 
-gives-Objective : (terms : List AstTerm) → Gives (Objective terms) (All IsProperTerm terms)
+gives-Objective : (terms : List AstTerm) → Gives (ObjectiveOf terms) (All IsProperTerm terms)
 gives-Objective terms = gives-then gives-OptionalLabel (gives-Terms ObjectiveTerm gives-ObjectiveTerm terms) second
 
 gives-RowsHeading : Gives RowsHeading (Unit {0})
@@ -89,11 +90,11 @@ row_body_gives row =
     (λ terms right. record { terms = terms; right = right }))
     second
 
-gives-Row : (row : AstRow) → Gives (Row row) (IsProperRow row)
+gives-Row : (row : AstRow) → Gives (RowOf row) (IsProperRow row)
 gives-Row row = record { given = λ symbols rest proper h. (row_body_gives row).given symbols rest proper h.2 }
 
-gives-rows : (rows : List AstRow) → Gives (Each Row rows) (All IsProperRow rows)
-gives-rows rows = gives-Each Row IsProperRow gives-Row rows
+gives-rows : (rows : List AstRow) → Gives (Each RowOf rows) (All IsProperRow rows)
+gives-rows rows = gives-Each RowOf IsProperRow gives-Row rows
 
 -- ---- bounds
 
@@ -148,7 +149,7 @@ gives-BoundBody bounds = record { given = body_given bounds }
 gives-BoundEnds : Gives BoundEnds (Unit {0})
 gives-BoundEnds = record { given = bound_end_given }
 
-gives-Bound : (bounds : List AstBound) → Gives (Bound bounds) (All IsProperBound bounds)
+gives-Bound : (bounds : List AstBound) → Gives (BoundOf bounds) (All IsProperBound bounds)
 gives-Bound bounds = gives-then (gives-BoundBody bounds) gives-BoundEnds first
 
 -- ---- sections and texts
@@ -170,7 +171,7 @@ IsProperSection (Listed list names) = All (λ _. Unit {0}) names
 
 gives-SectionOf : (written : Written) → Gives (SectionOf written) (IsProperSection written)
 gives-SectionOf (Uncertain rows) = gives-then (gives-Says (Reserved keyword.Uncertainty)) (gives-then gives-RowsHeading (gives-rows rows) second) second
-gives-SectionOf (Bounded bounds) = gives-then (gives-Says (Reserved keyword.Bounds)) (gives-Each Bound (All IsProperBound) gives-Bound bounds) second
+gives-SectionOf (Bounded bounds) = gives-then (gives-Says (Reserved keyword.Bounds)) (gives-Each BoundOf (All IsProperBound) gives-Bound bounds) second
 gives-SectionOf (Listed list names) = gives-then (gives-ListHeading list) (gives-names names) second
 
 record IsProperText (text : WrittenText) : Type 0 where

@@ -1,8 +1,8 @@
 -- Rows of a section, and of exact bounds, one after the other.
-use Rattle.std.proofs.Common.{◌≡◌, ℕ, suc, ◌+◌, ◌<◌, ◌≤◌, Bool, true, false, true≢false, List, [], ◌∷◌, ◌++◌, length, drop, get_or, map, Option, Some, None, Result, Ok, Err, refl, sym, ap, ◌∙◌, subst, append_assoc, add-one, arith}
+use Rattle.std.proofs.Common.{◌≡◌, ℕ, suc, ◌+◌, ◌<◌, ◌≤◌, Bool, true, false, true≢false, List, [], ◌∷◌, ◌++◌, length, drop, get_or, Option, Some, None, Result, Ok, Err, refl, sym, ap, ◌∙◌, subst, append_assoc, add-one, arith}
 use Rattle.std.specs.Prelude.{MatchOption}
 use Rattle.std.specs.Option.{option_and_then, option_map}
-use Rattle.std.proofs.lemmas.List.{append-nil, at_drop_more, at_drop_all, get_or-map}
+use Rattle.std.proofs.lemmas.List.{append-nil, at_drop_more, at_drop_all}
 use Rattle.qm_model.specs.declared.row.Row.{Row}
 use Rattle.qm_model.specs.declared.variable.Var.{Var}
 use Rattle.qm_parse.specs.declared.ast.Ast.{Ast}
@@ -13,7 +13,7 @@ use Rattle.qm_normal.specs.declared.fault.NormalFault.TheVariants as fault
 use Rattle.qm_normal.specs.declared.fault.Which.{Which}
 use Rattle.qm_normal.specs.declared.fault.Which.TheVariants as which
 use Rattle.qm_normal.specs.declared.bound_rows.Bounds.{Bounds}
-use Rattle.qm_normal.specs.Bounds.{bounds_of, rows_of_both}
+use Rattle.qm_normal.specs.BoundSteps.{bounds_of, rows_of_both}
 use Rattle.qm_normal.specs.Normal.{bind, bound_rows_from, narrow, rows_from, with_front}
 use Rattle.qm_normal.specs.Ends.{lower_end, upper_end}
 use Rattle.qm_normal.specs.Rows.{bound_row, high_row, low_row, normal_row, related}
@@ -153,14 +153,12 @@ wide_bounds ast first list i d old new answer inside put so_far =
     sym so_far ∙ ap (with_front old) (bounds_front ast first list i d inside)
     ∙ bounds_wide ast (first + i) (get_or list i d).name (drop (i + 1) list) (rows_of_both (vars_of ast) (first + i) (bounds_of ast (get_or list i d))) old new put
 
--- what the call tells, by the bounds in the list
-pub put_seen : (ast : Ast) (vars : List Var) (bounds : List Bounds) (list : List Named) (i var : ℕ) (d : Named) (both : Bounds) (told narrow : Bool) (old new : List Row) → vars ≡ vars_of ast → bounds ≡ map (bounds_of ast) list
-    → i < length list → both ≡ get_or bounds i both → told ≡ narrow → IsPut (rows_of_both vars var both) told old new
-    → IsPut (rows_of_both (vars_of ast) var (bounds_of ast (get_or list i d))) narrow old new
-put_seen ast vars bounds list i var d both told narrow old new vars_are bounds_are inside is same put =
-    let here : both ≡ bounds_of ast (get_or list i d) = is ∙ ap (λ (bs : List Bounds). get_or bs i both) bounds_are ∙ get_or-map (bounds_of ast) list i d both inside in
-    subst (λ (b : Bool). IsPut (rows_of_both (vars_of ast) var (bounds_of ast (get_or list i d))) b old new) same
-    (subst (λ (b : Bounds). IsPut (rows_of_both (vars_of ast) var b) told old new) here (subst (λ (xs : List Var). IsPut (rows_of_both xs var both) told old new) vars_are put))
+-- what the call tells, by the text
+pub put_seen : (ast : Ast) (vars : List Var) (var : ℕ) (named : Named) (both : Bounds) (told narrow : Bool) (old new : List Row) → vars ≡ vars_of ast → both ≡ bounds_of ast named
+    → told ≡ narrow → IsPut (rows_of_both vars var both) told old new → IsPut (rows_of_both (vars_of ast) var (bounds_of ast named)) narrow old new
+put_seen ast vars var named both told narrow old new vars_are is same put =
+    subst (λ (b : Bool). IsPut (rows_of_both (vars_of ast) var (bounds_of ast named)) b old new) same
+    (subst (λ (b : Bounds). IsPut (rows_of_both (vars_of ast) var b) told old new) is (subst (λ (xs : List Var). IsPut (rows_of_both xs var both) told old new) vars_are put))
 
 pub last_bounds : (ast : Ast) (first : ℕ) (list : List Named) (i : ℕ) (front : List Row) (answer : Result (List Row) NormalFault) → length list ≤ i
     → with_front front (bound_rows_from ast (first + i) (drop i list)) ≡ answer → answer ≡ Ok front

@@ -6,7 +6,7 @@ use Rattle.std.proofs.Math.IntN.{zero-*ℤ}
 use native.Mathlib.Nat.{div-mul_cancel, dvd-mul_left, dvd-mul_right, mul_assoc, mul_comm}
 use Prim.Native.Nat.{◌∣◌}
 use Rattle.std.proofs.lemmas.Nat.Gcd.{dvd_trans}
-use Rattle.std.proofs.lemmas.Bool.Decides.{Decides-int_eq, nat_tests}
+use Rattle.std.proofs.lemmas.Bool.Decides.{Decides-int_eq}
 use Rattle.std.proofs.lemmas.Int.{ints}
 use Rattle.std.proofs.lemmas.List.Elements.{All-cons, All-head, All-nil, All-tail, All-weaker}
 use Rattle.qm_math.specs.Fraction.{Fraction, HasPositiveDen, IsAtMost, IsSame, whole}
@@ -19,7 +19,7 @@ use Rattle.qm_math.proofs.Ring.{x0, x1, x2, x3, x4, x5, x6, ring, ring_le}
 use Rattle.qm_math.proofs.FractionLaws.{product_of-same, product_of-zero, product_of_den, same_refl, same_sym, same_trans, sum_of-same, sum_of_den, whole_den}
 use Rattle.qm_math.proofs.FractionLinear.{same_given}
 use Rattle.qm_math.proofs.FractionOrder.{at_most-same, at_most_congr, num_nonneg, product_of-at_most}
-use Rattle.qm_math.proofs.Over.{over-at_most-whole, product_of-whole-over, sum_of-over, whole-at_most-over}
+use Rattle.qm_math.proofs.Over.{over-at_most-whole, whole-at_most-over, value_step}
 use Rattle.qm_math.proofs.Products.{neg-*ℤ}
 use Rattle.qm_math.proofs.Whole.{cancel_le}
 use Rattle.qm_frac.specs.Gcd.{gcd_of}
@@ -29,7 +29,7 @@ use Rattle.qm_model.specs.declared.row.Row.{Row}
 use Rattle.qm_model.specs.declared.row.Term.{Term}
 use Rattle.qm_model.specs.Linear.{coefficient, form, sum_over}
 use Rattle.qm_model.specs.Points.{HoldsOver}
-use Rattle.qm_model.proofs.Forms.{coefficient-later, coefficient-other}
+use Rattle.qm_model.proofs.Forms.{coefficient-later, coefficient-other, coefficient-same}
 use Rattle.qm_parse.specs.declared.ast.AstTerm.{AstTerm}
 use Rattle.qm_parse.specs.declared.ast.Named.{Named}
 use Rattle.qm_parse.specs.declared.ast.Relation.{Relation}
@@ -112,13 +112,6 @@ zero_over d den =
     same_trans (product_of (whole (pos d)) (whole (pos 0))) (whole (pos 0)) (over den (pos 0)) (whole_den (pos 0)) (product_of-zero (whole (pos d)))
     (zero-*ℤ (pos den) ∙ sym (zero-*ℤ (pos 1)))
 
-one_more : (k m z : ℤ) (den : ℕ) → 0 < den → IsSame (sum_of (product_of (whole k) (over den m)) (over den z)) (over den ((k *ℤ m) +ℤ z))
-one_more k m z den some =
-    same_trans (sum_of (product_of (whole k) (over den m)) (over den z)) (sum_of (over den (k *ℤ m)) (over den z)) (over den ((k *ℤ m) +ℤ z))
-    (sum_of_den (over den (k *ℤ m)) (over den z) some some)
-    (sum_of-same (product_of (whole k) (over den m)) (over den z) (over den (k *ℤ m)) (over den z) (product_of-whole-over k den m) (same_refl (over den z)))
-    (sum_of-over den (k *ℤ m) z)
-
 pub scaled_weighted : (d den : ℕ) (nums : ℕ → ℤ) → 0 < den → (sums : List Fraction) (order : List Named) → All (DividesInto d) sums → All HasPositiveDen sums
     → IsSame (product_of (whole (pos d)) (weighted (value_over den nums) sums order)) (over den (weighted_nums d nums sums order))
 scaled_weighted d den nums some [] order divides all = zero_over d den
@@ -134,12 +127,9 @@ scaled_weighted d den nums some (s ∷ sums) (named ∷ order) divides all =
     same_given (whole (pos d) ∷ s ∷ m ∷ w ∷ whole k ∷ over den z ∷ over den ((k *ℤ nums named.name) +ℤ z) ∷ []) (x0 ⊗ (x1 ⊗ x2 ⊕ x3)) x6
     ((number (pos 1), x0 ⊗ x3, x5) ∷ (x2, x0 ⊗ x1, x4) ∷ (number (pos 1), x4 ⊗ x2 ⊕ x5, x6) ∷ [])
     (whole_den (pos d), (s_den, (some, (w_den, (whole_den k, (some, (some, tt)))))))
-    (scaled_weighted d den nums some sums order (All-tail (DividesInto d) s sums divides) rest, (times_same d s (All-head (DividesInto d) s sums divides), (one_more k (nums named.name) z den some, tt))) refl
+    (scaled_weighted d den nums some sums order (All-tail (DividesInto d) s sums divides) rest, (times_same d s (All-head (DividesInto d) s sums divides), (value_step den k (nums named.name) z (over den z) (same_refl (over den z)), tt))) refl
 
 -- ---- the form
-
-coefficient_here : (t : Term) (ts : List Term) (var : ℕ) → t.var ≡ var → coefficient (t ∷ ts) var ≡ t.coef +ℤ coefficient ts var
-coefficient_here t ts var h = grind (arith, nat_tests)
 
 sum_over_other : (t : Term) (ts : List Term) (first : ℕ) (values : List ℤ) → t.var < first → sum_over ◌*ℤ◌ (t ∷ ts) first values ≡ sum_over ◌*ℤ◌ ts first values
 sum_over_other t ts first [] h = refl
@@ -167,7 +157,7 @@ form_from d nums first (s ∷ sums) (named ∷ order) long =
     elim (int_eq k (pos 0)) as (λ b. (int_eq k (pos 0) ≡ b) → sum_over ◌*ℤ◌ (in_front first k ks b) first (v ∷ vs) ≡ (k *ℤ v) +ℤ z) [
       | true ↦ λ e. ap₂ (λ (a b : ℤ). (a *ℤ v) +ℤ b) (later ∙ sym ((Decides-int_eq k (pos 0)).0 e)) rest
       | false ↦ λ e.
-          let here : coefficient (t ∷ ts) first ≡ k = coefficient_here t ts first refl ∙ ap (λ (a : ℤ). k +ℤ a) later ∙ (let f : k +ℤ pos 0 ≡ k = omega (arith, ints) in f) in
+          let here : coefficient (t ∷ ts) first ≡ k = coefficient-same t ts first refl ∙ ap (λ (a : ℤ). k +ℤ a) later ∙ (let f : k +ℤ pos 0 ≡ k = omega (arith, ints) in f) in
           ap₂ (λ (a b : ℤ). (a *ℤ v) +ℤ b) here (sum_over_other t ts (suc first) vs (omega arith) ∙ rest)
     ] refl in
     ap (λ (us : List Term). sum_over ◌*ℤ◌ us first (v ∷ vs)) (nonzero_from-cons first k ks) ∙ found

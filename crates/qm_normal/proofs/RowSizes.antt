@@ -1,28 +1,16 @@
 -- The size of a row, term by term, and that no number of a row exceeds it.
-use Rattle.std.proofs.Common.{◌≡◌, ℕ, zero, suc, ◌+◌, ◌*◌, ◌<◌, ◌≤◌, Bool, true, false, cond, List, [], ◌∷◌, length, drop, get_or, map, refl, sym, ap, ◌∙◌, subst, arith, ℤ, pos, unsigned_abs, leb, leb-true}
+use Rattle.std.proofs.Common.{◌≡◌, ℕ, suc, ◌+◌, ◌*◌, ◌≤◌, Bool, true, false, cond, List, [], ◌∷◌, map, refl, sym, subst, arith, ℤ, pos, unsigned_abs}
 use Rattle.std.specs.Prelude.{All}
 use Rattle.std.specs.Ordering.{int_eq}
 use Rattle.std.proofs.Math.Nat.{mul-le-mul_left}
-use Rattle.std.proofs.lemmas.Bool.{false_from_ne_true}
 use Rattle.std.proofs.lemmas.Bool.Decides.{Decides-int_eq}
 use Rattle.std.proofs.lemmas.Int.{ints}
-use Rattle.std.proofs.lemmas.List.{at_drop_more, at_drop_all}
 use Rattle.std.proofs.lemmas.List.Elements.{All-nil, All-cons, All-weaker}
 use Rattle.std.proofs.lemmas.List.Sums.{sum_by-cons}
 use Rattle.qm_math.specs.Fraction.{Fraction}
 use Rattle.qm_model.specs.declared.row.Term.{Term}
 use Rattle.qm_model.specs.Sizes.{terms_size}
 use Rattle.qm_normal.specs.Rows.{nonzero_from, times}
-
--- the first of the terms that are left
-pub size-more : (reach_of : ℕ → ℕ) (terms : List Term) (i : ℕ) (term : Term) → i < length terms → term ≡ get_or terms i term
-    → terms_size reach_of (drop i terms) ≡ unsigned_abs term.coef * reach_of term.var + terms_size reach_of (drop (i + 1) terms)
-size-more reach_of terms i term inside is =
-    at_drop_more (terms_size reach_of) terms i term inside ∙ ap (λ (t : Term). terms_size reach_of (t ∷ drop (i + 1) terms)) (sym is)
-    ∙ sum_by-cons (λ (t : Term). unsigned_abs t.coef * reach_of t.var) term (drop (i + 1) terms)
-
-pub size-none : (reach_of : ℕ → ℕ) (terms : List Term) (i : ℕ) → length terms ≤ i → terms_size reach_of (drop i terms) ≡ 0
-size-none reach_of terms i end = at_drop_all (terms_size reach_of) terms i end
 
 -- ---- the coefficients that aren't 0
 
@@ -61,19 +49,3 @@ within_size reach_of some d n (first ∷ sums) =
     let rest = within_size reach_of some d (suc n) sums in
     All-cons (λ (sum : Fraction). unsigned_abs (times d sum) ≤ size) first sums here.0
     (All-weaker (λ (sum : Fraction). unsigned_abs (times d sum) ≤ part) (λ (sum : Fraction). unsigned_abs (times d sum) ≤ size) (λ sum le. omega (arith, le, here.1)) sums rest)
-
--- ---- turns of the loop
-
-pub fits_more : (reach_of : ℕ → ℕ) (terms : List Term) (i : ℕ) (term : Term) (size more whole : ℕ) → i < length terms → term ≡ get_or terms i term → more ≡ size + unsigned_abs term.coef * reach_of term.var
-    → size + terms_size reach_of (drop i terms) ≡ whole → more + terms_size reach_of (drop (i + 1) terms) ≡ whole
-fits_more reach_of terms i term size more whole inside is grown so_far = omega (arith, grown, so_far, size-more reach_of terms i term inside is)
-
-pub fits_not : (reach_of : ℕ → ℕ) (terms : List Term) (i : ℕ) (term : Term) (size whole most : ℕ) → i < length terms → term ≡ get_or terms i term → ¬ (size + unsigned_abs term.coef * reach_of term.var ≤ most)
-    → size + terms_size reach_of (drop i terms) ≡ whole → false ≡ leb whole most
-fits_not reach_of terms i term size whole most inside is great so_far =
-    let first = size-more reach_of terms i term inside is in
-    sym (false_from_ne_true (leb whole most) (λ e. great (omega (arith, leb-true whole most e, first, so_far))))
-
-pub fits_end : (reach_of : ℕ → ℕ) (terms : List Term) (i size whole most : ℕ) → length terms ≤ i → size + terms_size reach_of (drop i terms) ≡ whole → leb size most ≡ leb whole most
-fits_end reach_of terms i size whole most end so_far =
-    ap (λ (n : ℕ). leb n most) (omega (arith, so_far, size-none reach_of terms i end))

@@ -1,18 +1,15 @@
 -- Rows and objectives, by what their terms come to.
-use Rattle.std.proofs.Common.{◌≡◌, ℕ, ◌≤◌, ◌^◌, List, [], ◌∷◌, map, Option, Some, None, Result, Ok, Err, refl, sym, ap, ◌∙◌}
+use Rattle.std.proofs.Common.{◌≡◌, ℕ, ◌≤◌, ◌^◌, List, ◌∷◌, Option, Some, None, Result, Ok, Err, refl, sym, ap, ◌∙◌}
 use Rattle.std.specs.Result.{result_ok}
 use Rattle.std.proofs.lemmas.Option.{cond_some, none-some, same_Some}
 use Rattle.qm_math.specs.Fraction.{Fraction}
 use Rattle.qm_frac.specs.declared.leaves.Leaves.{Leaves}
-use Rattle.qm_model.specs.declared.game.Sense.{Sense}
-use Rattle.qm_model.specs.declared.game.Sense.TheVariants.{Max, Min}
 use Rattle.qm_model.specs.declared.row.Row.{Row}
 use Rattle.qm_model.specs.declared.variable.Var.{Var}
 use Rattle.qm_parse.specs.declared.ast.AstTerm.{AstTerm}
 use Rattle.qm_parse.specs.declared.ast.Named.{Named}
-use Rattle.qm_normal.specs.Normal.{Objective, maximised, objective_from, objective_times, scaled_objective}
+use Rattle.qm_normal.specs.Normal.{Objective, objective_from, objective_times, scaled_objective}
 use Rattle.qm_normal.specs.Rows.{common_denominator, is_constant, is_narrow, narrow_row, normal_row, row_times, total, totals}
-use Rattle.qm_normal.specs.Turned.{turned}
 use Rattle.qm_normal.proofs.NarrowRows.{wide_by_den}
 
 -- ---- rows
@@ -90,14 +87,3 @@ pub objective-summed : (vars : List Var) (order : List Named) (terms : List AstT
     → scaled_objective vars sums constant ≡ objective_from vars order terms
 unfolding objective_from
 objective-summed vars order terms sums constant some one = summed_by vars (totals order terms) (total is_constant terms) sums constant some one
-
--- ---- its terms
-
-turned_each : (terms : List AstTerm) → map (turned Max) terms ≡ terms
-turned_each [] = refl
-turned_each (term ∷ terms) = ap (λ (list : List AstTerm). term ∷ list) (turned_each terms)
-
-pub maximised_is : (sense : Sense) (terms : List AstTerm) → map (turned sense) terms ≡ maximised sense terms
-unfolding maximised
-maximised_is Max terms = turned_each terms
-maximised_is Min terms = refl

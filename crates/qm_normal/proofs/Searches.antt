@@ -7,7 +7,7 @@ use Rattle.qm_parse.specs.declared.ast.Named.{Named}
 use Rattle.qm_parse.proofs.FirstSuch.{first_such-same, found_here, found_later, found_nowhere}
 use Rattle.qm_normal.specs.Limits.{fits_domain, large_domain}
 use Rattle.qm_normal.specs.Scopes.{continuous_universal, exists_in_uncertainty}
-use Rattle.qm_normal.specs.Tables.{IsEndsOf, IsRolesOf, fits_by, universal_by, whole_by}
+use Rattle.qm_normal.specs.TableSteps.{IsEndsOf, IsRolesOf, fits_by, universal_by, whole_by}
 use Rattle.qm_normal.specs.Variables.{is_universal, is_whole, var_of}
 use Rattle.qm_normal.specs.declared.ends.Ends.{Ends}
 use Rattle.qm_normal.specs.declared.roles.Roles.{Roles}

@@ -1,5 +1,5 @@
 -- A text states one problem at most.
-use Rattle.std.proofs.Common.{◌≡◌, ◌≢◌, ℕ, List, Result, Ok, Err, sym, subst}
+use Rattle.std.proofs.Common.{◌≡◌, ◌≢◌, ℕ, List, Result, Ok, Err, subst}
 use Rattle.qm_lex.specs.declared.token.Token.{Token}
 use Rattle.qm_lex.specs.Texts.{AreTokens}
 use Rattle.qm_lex.proofs.Reached.{one_list}
@@ -10,7 +10,6 @@ use Rattle.qm_parse.specs.declared.fault.ParseFault.TheVariants.{Memory}
 use Rattle.qm_parse.specs.Parsing.{IsParsed}
 use Rattle.qm_parse.proofs.OneAnswer.{answers-same}
 use Rattle.qm_parse.proofs.OneSymbols.{OneDecimal}
-use Rattle.qm_normal.specs.Normal.{normal_form}
 use Rattle.qm_normal.specs.Stated.{States}
 
 -- whatever the tokens of a text are found to be, they have one answer, unless memory ran out

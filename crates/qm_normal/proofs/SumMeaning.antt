@@ -40,10 +40,6 @@ coef_if_den test term some = chosen_den (test term) term.coef some
 pub coefs_den : (test : AstTerm → Bool) (terms : List AstTerm) → All IsProperTerm terms → 0 < (total_of (coef_if test) terms).den
 coefs_den test terms proper = total_of_den (coef_if test) terms (λ k d inside. coef_if_den test (get_or terms k d) (proper k d inside))
 
-added_same : (a b r : Fraction) → added a b ≡ Ok r → IsSame r (sum_of a b)
-unfolding sum_of
-added_same a b r h = added-value a b r h
-
 pub total_value : (test : AstTerm → Bool) (terms : List AstTerm) (sum r : Fraction) → All IsProperTerm terms → 0 < sum.den → total_from test terms sum ≡ Ok r → IsSame r (sum_of sum (total_of (coef_if test) terms))
 unfolding total_from
 total_value test [] sum r proper some h =
@@ -60,7 +56,7 @@ total_value test (term ∷ terms) sum r proper some h =
           let later = total_value test terms step.0 r rest s_den step.2 in
           let r_den = total_den test terms step.0 r rest s_den step.2 in
           same_given (r ∷ step.0 ∷ sum ∷ term.coef ∷ t ∷ []) x0 (x2 ⊕ (x3 ⊕ x4)) ((number (pos 1), x0, x1 ⊕ x4) ∷ (number (pos 1), x1, x2 ⊕ x3) ∷ [])
-          (r_den, (s_den, (some, (here, (t_den, tt))))) (later, (added_same sum term.coef step.0 step.1, tt)) refl
+          (r_den, (s_den, (some, (here, (t_den, tt))))) (later, (added-value sum term.coef step.0 step.1, tt)) refl
       | false ↦ λ e.
           let later = total_value test terms sum r rest some e in
           let r_den = total_den test terms sum r rest some e in

@@ -7,7 +7,7 @@ use Rattle.std.proofs.lemmas.List.Elements.{All-head, All-tail}
 use Rattle.std.proofs.lemmas.Option.{MatchOption-at_none, MatchOption-at_some, get_or_from_slice_get, none-some, same_Some, slice_get_within}
 use Rattle.qm_parse.specs.declared.ast.AstTerm.{AstTerm}
 use Rattle.qm_parse.specs.declared.ast.Named.{Named}
-use Rattle.qm_normal.specs.Places.{AreApart, IsPlacesOf, StandsAt, place_in}
+use Rattle.qm_normal.specs.PlaceSteps.{AreApart, IsPlacesOf, StandsAt, place_in}
 use Rattle.qm_normal.specs.Rows.{is_of}
 use Rattle.qm_normal.specs.declared.places.Places.{Places}
 

@@ -9,7 +9,7 @@ use Rattle.qm_frac.specs.Checked.{added}
 use Rattle.qm_frac.specs.declared.leaves.Leaves.{Leaves}
 use Rattle.qm_parse.specs.declared.ast.AstTerm.{AstTerm}
 use Rattle.qm_parse.specs.declared.ast.Named.{Named}
-use Rattle.qm_normal.specs.Places.{AreApart, IsPlacesOf, place_in}
+use Rattle.qm_normal.specs.PlaceSteps.{AreApart, IsPlacesOf, place_in}
 use Rattle.qm_normal.specs.Rows.{is_constant, total_from}
 use Rattle.qm_normal.specs.SumSteps.{added_at, plus_constant}
 use Rattle.qm_normal.specs.declared.places.Places.{Places}

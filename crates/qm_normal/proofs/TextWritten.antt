@@ -3,6 +3,8 @@ use Rattle.std.proofs.Common.{◌≡◌, ◌↔◌, cond, ℕ, suc, ◌+◌, ◌
 use Rattle.std.specs.Prelude.{All, IsTrue, filter, map}
 use Rattle.std.proofs.lemmas.List.{length-append, length-map}
 use Rattle.std.proofs.lemmas.List.Elements.{All-append, All-cons, All-filter, All-head, All-nil, All-same, All-tail, filter_passes}
+use Rattle.std.proofs.lemmas.Bool.{not-true}
+use Rattle.qm_math.proofs.Lists.{all_left, all_right}
 use Rattle.qm_model.specs.declared.game.Problem.{Problem}
 use Rattle.qm_model.specs.declared.row.Row.{Row}
 use Rattle.qm_model.specs.Points.{AreWithinOver, HoldsOver}
@@ -22,7 +24,7 @@ use Rattle.qm_normal.proofs.BoundRows.{IsInExact, IsInRounded, continuous_list, 
 use Rattle.qm_normal.proofs.NormalBounds.{HasProperEnds}
 use Rattle.qm_normal.proofs.NormalDens.{proper_ends}
 use Rattle.qm_normal.proofs.NormalSteps.{bind-ok, narrow-ok, normal_parts, same_ok}
-use Rattle.qm_normal.proofs.NormalVars.{all_left, all_parts, all_right}
+use Rattle.qm_normal.proofs.NormalVars.{all_parts}
 use Rattle.qm_normal.proofs.RowsWritten.{row_means}
 
 -- ---- names stand in ORDER
@@ -98,14 +100,10 @@ unfilter P test (x ∷ xs) a b =
       | false ↦ λ p q. All-cons P x xs (All-head P x no_list q) (unfilter P test xs p (All-tail P x no_list q))
     ] a b
 
-behind : (f : Named → ℤ) (w c : List Named) (i : ℕ) → get_or (map f (w ++ c)) (length w + i) (pos 0) ≡ get_or (map f c) i (pos 0)
-behind f [] c i = ap (λ (j : ℕ). get_or (map f c) j (pos 0)) (let e : 0 + i ≡ i = omega arith in e)
-behind f (x ∷ w) c i =
-    ap (λ (j : ℕ). get_or (f x ∷ map f (w ++ c)) j (pos 0)) (let e : suc (length w) + i ≡ suc (length w + i) = omega arith in e) ∙ behind f w c i
-
-is_false : (b : Bool) → not b ≡ true → b ≡ false
-is_false true h = absurd (cc)
-is_false false h = refl
+get_or-map_behind : (f : Named → ℤ) (w c : List Named) (i : ℕ) → get_or (map f (w ++ c)) (length w + i) (pos 0) ≡ get_or (map f c) i (pos 0)
+get_or-map_behind f [] c i = ap (λ (j : ℕ). get_or (map f c) j (pos 0)) (let e : 0 + i ≡ i = omega arith in e)
+get_or-map_behind f (x ∷ w) c i =
+    ap (λ (j : ℕ). get_or (f x ∷ map f (w ++ c)) j (pos 0)) (let e : suc (length w) + i ≡ suc (length w + i) = omega arith in e) ∙ get_or-map_behind f w c i
 
 pub bounds_mean : (ast : Ast) (den : ℕ) (nums : ℕ → ℤ) (rows : List Row) → HasProperNumbers ast → 0 < den → AreWholeOver den nums ast
     → bound_rows_from ast (length (whole_names ast)) (continuous_names ast) ≡ Ok rows
@@ -119,7 +117,7 @@ bounds_mean ast den nums rows proper some whole h =
     let test : Named → Bool = λ named. is_whole ast named.name in
     let other : Named → Bool = λ named. not (is_whole ast named.name) in
     let ends : All (HasProperEnds ast) c = λ k d inside. proper_ends ast (get_or c k d) proper in
-    let free : All (λ named. is_whole ast named.name ≡ false) c = λ k d inside. is_false (is_whole ast (get_or c k d).name) (filter_passes other ast.order k d inside) in
+    let free : All (λ named. is_whole ast named.name ≡ false) c = λ k d inside. not-true (is_whole ast (get_or c k d).name) (filter_passes other ast.order k d inside) in
     let wholes = filter_passes test ast.order in
     let IsMultiple : Named → Type 0 = λ named. IsTrue (is_whole ast named.name) → (k : ℤ) × (nums named.name ≡ k *ℤ pos den) in
     let multiples : All IsMultiple w = All-filter test IsMultiple ast.order whole in
@@ -129,7 +127,7 @@ bounds_mean ast den nums rows proper some whole h =
     let multiple = multiples k d inside (wholes k d inside) in
     whole_means ast den nums named multiple.0 (proper_ends ast named proper) (wholes k d inside) some multiple.1 in
     let long : length w + length c ≤ length values = omega (arith, length-map (game_order ast) (λ (named : Named). nums named.name), length-append w c) in
-    let list = continuous_list ast den nums values (length w) c rows ends free long (λ i. behind (λ (named : Named). nums named.name) w c i) h in
+    let list = continuous_list ast den nums values (length w) c rows ends free long (λ i. get_or-map_behind (λ (named : Named). nums named.name) w c i) h in
     let within = within_list ast den nums (game_order ast) in (
       λ k.
           let all = within.0 k.0 in

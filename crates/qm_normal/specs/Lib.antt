@@ -5,13 +5,11 @@ pub mod Rows
 pub mod Limits
 pub mod Normal
 pub mod Stated
-pub mod Tables
-pub mod Places
-pub mod Widths
+pub mod TableSteps
+pub mod PlaceSteps
 pub mod Answers
-pub mod Sections
-pub mod Bounds
-pub mod Turned
+pub mod RowSteps
+pub mod BoundSteps
 pub mod SumSteps
 pub mod Numbers
 pub mod Trees

@@ -92,8 +92,8 @@ objective_from vars order terms =
       | Ok sums ↦ elim (total is_constant terms) [ Err leaves ↦ None | Ok constant ↦ scaled_objective vars sums constant ]
     ]
 
-abbrev pub objective_of : Ast → Result Objective NormalFault
-objective_of ast = narrow which.Objective (objective_from (vars_of ast) (game_order ast) (maximised ast.sense ast.objective))
+abbrev pub objective_form : Ast → Result Objective NormalFault
+objective_form ast = narrow which.Objective (objective_from (vars_of ast) (game_order ast) (maximised ast.sense ast.objective))
 
 abbrev pub problem_with : Ast → List Row → List Row → Objective → Problem
 problem_with ast rows urows objective = record {
@@ -112,7 +112,7 @@ abbrev pub problem_form : Ast → Result Problem NormalFault
 problem_form ast =
     bind (rows_of ast)
     (λ rows. bind (urows_of ast)
-    (λ urows. bind (objective_of ast)
+    (λ urows. bind (objective_form ast)
     (λ objective. unless (rows_fault rows urows) (Ok (problem_with ast rows urows objective)))))
 
 -- the normal form, or the first fault: of scope, then of limits in their order

@@ -1,14 +1,17 @@
-ghost use Rattle.std.specs.Prelude.{◌≡◌, ◌≢◌, ◌<◌, ◌+◌, ◌^◌, ◌++◌, ◌∷◌, [], IfOk, MatchOption, false, true, length, map, pos};
-ghost use Rattle.qm_parse.specs.Known.{AreNamesBelow};
+ghost use Rattle.std.specs.Prelude.{◌≡◌, ◌≢◌, ◌<◌, ◌+◌, ◌^◌, ◌++◌, ◌∷◌, [], IfOk, MatchOption, false, true, length, pos};
 ghost use Rattle.qm_normal.specs.declared.fault.NormalFault.TheVariants as fault;
 ghost use Rattle.qm_normal.specs.declared.fault.Which.TheVariants as which;
 ghost use Rattle.qm_normal.specs.Answers.{Gives};
-ghost use Rattle.qm_normal.specs.Bounds.{bounds_of, rows_of_both};
+ghost use Rattle.qm_normal.specs.BoundSteps.{bounds_by, rows_of_both};
 ghost use Rattle.qm_normal.specs.Normal.{bound_rows_from, with_front};
 ghost use Rattle.qm_normal.specs.Rows.{bound_row, high_row, low_row};
+ghost use Rattle.qm_normal.specs.TableSteps.{IsEndsOf, IsRolesOf};
 ghost use Rattle.qm_normal.specs.Variables.{name_of, vars_of};
 
+use crate::ends::Ends;
 use crate::fault::{NormalFault, Which};
+use crate::names::name_of;
+use crate::roles::Roles;
 use crate::scaling::{MOST, fits};
 use qm_frac::Frac;
 use qm_io::{List, Memory};
@@ -18,7 +21,7 @@ use smallvec::SmallVec;
 use std::alloc::Global;
 
 /// The exact bounds of a variable.
-#[derive(Clone, Copy, Debug)]
+#[derive(Clone, Copy)]
 pub(crate) struct Bounds {
     pub lower: Frac,
     pub upper: Frac,
@@ -84,12 +87,19 @@ fn add_rows(
 
 /// That the row of a variable's bound is too wide.
 fn too_wide(alloc: Global, ast: &Ast, name: u32) -> Result<NormalFault, Memory>
-    requires { name < length ast.now.names }
     ensures { IfOk result (λ wide. wide ≡ fault.Wide (which.Bound (name_of ast.now name))) }
 {
-    let mut copy = List::new(alloc);
-    copy.append(ast.names.name(name as usize).as_slice())?;
-    Ok(NormalFault::Wide(Which::Bound(copy)))
+    Ok(NormalFault::Wide(Which::Bound(name_of(alloc, ast, name)?)))
+}
+
+/// The exact bounds of the variable of a name.
+fn exact_bounds(roles: &Roles, ends: &Ends, name: u32) -> Bounds
+    ensures { result ≡ bounds_by roles.now ends.now name }
+{
+    Bounds {
+        lower: ends.lower_end(roles, name),
+        upper: ends.upper_end(roles, name),
+    }
 }
 
 /// These rows, and behind them the rows of the exact bounds of continuous variables, the first of which has this number.
@@ -97,21 +107,23 @@ fn too_wide(alloc: Global, ast: &Ast, name: u32) -> Result<NormalFault, Memory>
 pub(crate) fn bound_rows(
     alloc: Global,
     ast: &Ast,
+    roles: &Roles,
+    ends: &Ends,
     vars: &[Var],
     first: u32,
     continuous: &[Named],
-    bounds: &[Bounds],
     front: List<Row>,
 ) -> Result<List<Row>, NormalFault>
+    requires roles { IsRolesOf ast.now roles.now }
+    requires ends { IsEndsOf ast.now ends.now }
     requires vars { vars.now ≡ vars_of ast.now }
-    requires bounds { bounds.now ≡ map (bounds_of ast.now) continuous.now }
-    requires names { AreNamesBelow (length ast.now.names) continuous.now }
     requires few { first + length continuous.now < 2 ^ 32 }
     ensures { Gives result (with_front front (bound_rows_from ast.now first continuous.now)) }
 {
     let mut list = front;
     for (i, named) in continuous.iter().enumerate() {
-        if !add_rows(alloc, vars, first + i as u32, bounds[i], &mut list)? {
+        let bounds = exact_bounds(roles, ends, named.name);
+        if !add_rows(alloc, vars, first + i as u32, bounds, &mut list)? {
             return Err(too_wide(alloc, ast, named.name)?);
         }
     }

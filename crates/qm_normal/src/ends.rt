@@ -1,7 +1,7 @@
 ghost use Rattle.std.specs.Prelude.{◌≡◌, [], ◌∷◌, None, IfOk, OnOk, if◌then◌else◌};
 ghost use Rattle.qm_math.specs.Fraction.{is_below};
 ghost use Rattle.qm_normal.specs.Ends.{greater_of, lesser_of, sets_lower};
-ghost use Rattle.qm_normal.specs.Tables.{IsEndsOf, Notes, lower_by, upper_by};
+ghost use Rattle.qm_normal.specs.TableSteps.{IsEndsOf, Notes, lower_by, upper_by};
 ghost use Rattle.qm_parse.specs.Checks.{sets_upper};
 
 use crate::latest::Latest;
@@ -13,7 +13,7 @@ use std::alloc::Global;
 use std::cmp::Ordering;
 
 /// The last lower and the last upper value that BOUNDS gives each name.
-#[derive(Debug, Drop)]
+#[derive(Drop)]
 pub(crate) struct Ends {
     lower: Latest,
     upper: Latest,

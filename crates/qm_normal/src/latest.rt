@@ -1,13 +1,13 @@
 ghost use Rattle.std.specs.Prelude.{◌≡◌, ℕ, ◌<◌, ◌==◌, length, None, Some, OnOk, if◌then◌else◌};
 ghost use Rattle.qm_normal.specs.Ends.{later};
-ghost use Rattle.qm_normal.specs.Tables.{value_by};
+ghost use Rattle.qm_normal.specs.TableSteps.{value_by};
 
 use qm_frac::Frac;
 use qm_io::{List, Memory};
 use std::alloc::Global;
 
 /// A value by the number of a name: the one that was set last, if any was.
-#[derive(Debug, Drop)]
+#[derive(Drop)]
 pub(crate) struct Latest {
     values: List<Option<Frac>>,
 }

@@ -1,4 +1,13 @@
 //! The normal form of a syntax tree: the game that a text states, or why it is out of scope or of limits.
+//!
+//! `normal` needs a tree in order (`Trees`), as `qm_parse` hands out, and gives its normal form (`Answers`, `Normal`): the
+//! game, or the first fault: of scope (`Scopes`), of the variables and their bounds (`Variables`, `Ends`), of a part that
+//! is too wide (`Rows`), of too many rows or terms (`Limits`). A row is brought to whole numbers by its least common
+//! denominator and by nothing else, and repeated terms are added in the order in which they are written.
+//!
+//! The laws say that the game has the points and the objective that the text writes (`Meaning`), of a tree whose numbers
+//! are proper (`Numbers`), and that bytes state one problem at most (`Stated`). The other files of `specs/`, called
+//! `..Steps`, say what the parts of the program do, and no public clause cites them.
 #![tactic(auto)]
 
 mod bound_rows;
@@ -10,6 +19,7 @@ mod laws;
 mod limits;
 mod names;
 mod objective;
+mod order;
 mod places;
 mod problem;
 mod roles;
@@ -27,6 +37,3 @@ pub use laws::{
     rows_of_a_text_have_no_constants, the_objective_is_what_is_written,
     the_problem_is_what_is_written, trees_of_texts_are_in_order,
 };
-
-#[cfg(test)]
-mod tests;

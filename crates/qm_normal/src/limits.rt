@@ -1,6 +1,6 @@
 ghost use Rattle.std.specs.Prelude.{◌≡◌, ◌≤◌, ◌*◌, ◌^◌, unsigned_abs, nat_le, length, IfOk};
 ghost use Rattle.qm_normal.specs.Limits.{large_domain, rows_fault, terms_in, variables_fault};
-ghost use Rattle.qm_normal.specs.Tables.{IsEndsOf, IsRolesOf, fits_between, fits_by};
+ghost use Rattle.qm_normal.specs.TableSteps.{IsEndsOf, IsRolesOf, fits_between, fits_by};
 
 use crate::ends::Ends;
 use crate::fault::{Counted, NormalFault};

@@ -1,13 +1,13 @@
 ghost use Rattle.std.specs.Prelude.{◌≡◌, ℕ, ◌^◌, ◌<◌, Some, IfOk, OnOk, length, if◌then◌else◌, ◌==◌};
 ghost use Rattle.std.specs.Option.{option_and_then};
-ghost use Rattle.qm_normal.specs.Places.{IsPlacesOf, place_in};
+ghost use Rattle.qm_normal.specs.PlaceSteps.{IsPlacesOf, place_in};
 
 use qm_io::{List, Memory};
 use qm_parse::{AstTerm, Named};
 use std::alloc::Global;
 
 /// The places of variables in game order, by the numbers of their names.
-#[derive(Debug, Drop)]
+#[derive(Drop)]
 pub(crate) struct Places {
     places: List<Option<u32>>,
 }

@@ -1,76 +1,58 @@
-ghost use Rattle.std.specs.Prelude.{◌≡◌, ◌<◌, ◌≤◌, ◌^◌, None, Ok, IfOk, length, map};
+ghost use Rattle.std.specs.Prelude.{◌≡◌, ◌<◌, ◌≤◌, ◌^◌, None, length};
 ghost use Rattle.qm_parse.specs.Checks.{name_fault};
-ghost use Rattle.qm_parse.specs.Known.{HasNumbersBelow};
-ghost use Rattle.qm_parse.specs.declared.ast.Ast.{Ast};
 ghost use Rattle.qm_normal.specs.Answers.{Gives};
-ghost use Rattle.qm_normal.specs.Bounds.{bounds_of};
 ghost use Rattle.qm_normal.specs.Limits.{variables_fault};
-ghost use Rattle.qm_normal.specs.Normal.{objective_of, problem_form, problem_with, rows_of};
-ghost use Rattle.qm_normal.specs.Places.{AreApart, IsPlacesOf};
-ghost use Rattle.qm_normal.specs.Tables.{IsEndsOf, IsRolesOf};
-ghost use Rattle.qm_normal.specs.Variables.{continuous_names, game_order, vars_of, whole_names};
+ghost use Rattle.qm_normal.specs.Normal.{objective_form, problem_form, problem_with, rows_of};
+ghost use Rattle.qm_normal.specs.PlaceSteps.{AreApart, IsPlacesOf};
+ghost use Rattle.qm_normal.specs.TableSteps.{IsEndsOf, IsGameOrderOf, IsRolesOf};
+ghost use Rattle.qm_normal.specs.Variables.{game_order, vars_of, whole_names};
 
-use crate::bound_rows::{Bounds, bound_rows};
+use crate::bound_rows::bound_rows;
 use crate::ends::Ends;
 use crate::fault::{NormalFault, Which};
 use crate::limits::rows_fault;
-use crate::objective::{Objective, maximised, objective_from};
+use crate::objective::{Objective, objective_from};
+use crate::order::GameOrder;
 use crate::places::Places;
 use crate::roles::Roles;
 use crate::rows::{Section, rows_of_section};
-use crate::variables::{continuous_names, game_order, vars, whole_names};
-use qm_io::{List, Memory};
+use crate::variables::vars;
+use qm_io::List;
 use qm_model::{Problem, Row, Var};
 use qm_parse::{Ast, Named};
 use std::alloc::Global;
 
-/// The exact bounds of the variables in a list.
-fn bounds(alloc: Global, roles: &Roles, ends: &Ends, list: &[Named]) -> Result<List<Bounds>, Memory>
-    ensures { (ast : Ast) → IsRolesOf ast roles.now → IsEndsOf ast ends.now → IfOk result (λ found. found ≡ map (bounds_of ast) list.now) }
-{
-    let mut bounds = List::new(alloc);
-    for named in list {
-        bounds.push(Bounds {
-            lower: ends.lower_end(roles, named.name),
-            upper: ends.upper_end(roles, named.name),
-        })?;
-    }
-    Ok(bounds)
-}
-
 /// The rows of the text, and behind them those of exact bounds.
-#[tactic(auto, unfolding(crate::specs::Sections::rows_in, crate::specs::Normal::bind))]
+#[tactic(auto, unfolding(crate::specs::RowSteps::rows_in, crate::specs::Normal::bind))]
 fn rows(
     alloc: Global,
     ast: &Ast,
     roles: &Roles,
     ends: &Ends,
     vars: &[Var],
-    order: &[Named],
+    order: &GameOrder,
     places: &Places,
 ) -> Result<List<Row>, NormalFault>
     requires roles { IsRolesOf ast.now roles.now }
     requires ends { IsEndsOf ast.now ends.now }
-    requires known { HasNumbersBelow (length ast.now.names) ast.now }
     requires vars { vars.now ≡ vars_of ast.now }
-    requires order { order.now ≡ game_order ast.now }
-    requires places { IsPlacesOf order.now places.now }
-    requires apart { AreApart order.now }
-    requires few { length order.now < 2 ^ 31 }
+    requires order { IsGameOrderOf ast.now order.now }
+    requires places { IsPlacesOf order.now.names places.now }
+    requires apart { AreApart order.now.names }
+    requires few { length order.now.names < 2 ^ 31 }
     requires numbers { length ast.now.rows < 2 ^ 31 }
     ensures { Gives result (rows_of ast.now) }
 {
-    let whole = whole_names(alloc, ast, roles)?;
-    let continuous = continuous_names(alloc, ast, roles)?;
-    let bounds = bounds(alloc, roles, ends, continuous.as_slice())?;
-    let front = rows_of_section(alloc, Section::Rows, ast, vars, order, places)?;
+    let front = rows_of_section(alloc, Section::Rows, ast, vars, order.names(), places)?;
+    let first = order.wholes() as u32;
     bound_rows(
         alloc,
         ast,
+        roles,
+        ends,
         vars,
-        whole.len() as u32,
-        continuous.as_slice(),
-        bounds.as_slice(),
+        first,
+        order.continuous(),
         front,
     )
 }
@@ -89,10 +71,10 @@ fn objective(
     requires places { IsPlacesOf order.now places.now }
     requires apart { AreApart order.now }
     requires few { length order.now < 2 ^ 31 }
-    ensures { Gives result (objective_of ast.now) }
+    ensures { Gives result (objective_form ast.now) }
 {
-    let terms = maximised(alloc, ast.sense, ast.objective.as_slice())?;
-    match objective_from(alloc, vars, order, places, terms.as_slice())? {
+    let terms = ast.objective.as_slice();
+    match objective_from(alloc, vars, order, places, ast.sense, terms)? {
         Some(objective) => Ok(objective),
         None => Err(NormalFault::Wide(Which::Objective)),
     }
@@ -106,7 +88,6 @@ pub(crate) fn problem(
     ends: &Ends,
 ) -> Result<Problem, NormalFault>
     requires names { name_fault ast.now ≡ None }
-    requires known { HasNumbersBelow (length ast.now.names) ast.now }
     requires roles { IsRolesOf ast.now roles.now }
     requires ends { IsEndsOf ast.now ends.now }
     requires variables { variables_fault ast.now ≡ None }
@@ -114,17 +95,18 @@ pub(crate) fn problem(
     requires uncertain { length ast.now.uncertain < 2 ^ 31 }
     ensures { Gives result (problem_form ast.now) }
 {
-    let order = game_order(alloc, ast, roles)?;
-    let vars = vars(alloc, ast, roles, ends, order.as_slice())?;
-    let places = Places::of(alloc, order.as_slice())?;
-    let (xs, names) = (vars.as_slice(), order.as_slice());
-    let rows = rows(alloc, ast, roles, ends, xs, names, &places)?;
+    let order = GameOrder::of(alloc, ast, roles)?;
+    let names = order.names();
+    let vars = vars(alloc, ast, roles, ends, names)?;
+    let xs = vars.as_slice();
+    let places = Places::of(alloc, names)?;
+    let rows = rows(alloc, ast, roles, ends, xs, &order, &places)?;
     let urows = rows_of_section(alloc, Section::Uncertain, ast, xs, names, &places)?;
     let objective = objective(alloc, ast, xs, names, &places)?;
     if let Some(fault) = rows_fault(rows.as_slice(), urows.as_slice()) {
         return Err(fault);
     }
-    let wholes = whole_names(alloc, ast, roles)?.len() as u32;
+    let wholes = order.wholes() as u32;
     Ok(problem_with(ast, vars, wholes, rows, urows, objective))
 }
 

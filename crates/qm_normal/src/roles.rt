@@ -1,12 +1,12 @@
 ghost use Rattle.std.specs.Prelude.{◌≡◌, IfOk};
-ghost use Rattle.qm_normal.specs.Tables.{IsRolesOf, binary_by, universal_by, whole_by};
+ghost use Rattle.qm_normal.specs.TableSteps.{IsRolesOf, binary_by, universal_by, whole_by};
 
 use qm_io::Memory;
 use qm_parse::{Ast, Marks};
 use std::alloc::Global;
 
 /// Which names stand in GENERALS, in BINARIES and in ALL.
-#[derive(Debug, Drop)]
+#[derive(Drop)]
 pub(crate) struct Roles {
     generals: Marks,
     binaries: Marks,

@@ -1,11 +1,11 @@
 ghost use Rattle.std.specs.Prelude.{◌≡◌, ◌<◌, ◌^◌, ◌++◌, IfOk, IfSome, OnOk, length};
 ghost use Rattle.qm_normal.specs.Answers.{Gives};
 ghost use Rattle.qm_normal.specs.Normal.{rows_from};
-ghost use Rattle.qm_normal.specs.Places.{AreApart, IsPlacesOf};
+ghost use Rattle.qm_normal.specs.PlaceSteps.{AreApart, IsPlacesOf};
 ghost use Rattle.qm_normal.specs.Rows.{negated_row, normal_row, related};
-ghost use Rattle.qm_normal.specs.Sections.{part_of, rows_in};
+ghost use Rattle.qm_normal.specs.RowSteps.{part_of, rows_in};
 ghost use Rattle.qm_normal.specs.Variables.{game_order, vars_of};
-ghost use Rattle.qm_normal.specs.Widths.{IsNarrowRow};
+ghost use Rattle.qm_normal.specs.RowSteps.{IsNarrowRow};
 
 use crate::fault::{NormalFault, Which};
 use crate::places::Places;
@@ -13,13 +13,13 @@ use crate::scaling::narrow_row;
 use crate::totals::totals;
 use qm_frac::Frac;
 use qm_io::{List, Memory};
-use qm_model::{Row, Term, Terms, Var};
+use qm_model::{Row, Sense, Term, Terms, Var};
 use qm_parse::{Ast, AstRow, AstTerm, Named, Relation};
 use smallvec::SmallVec;
 use std::alloc::Global;
 
 /// Which of a text's two sections of rows.
-#[derive(Clone, Copy, Debug)]
+#[derive(Clone, Copy)]
 pub(crate) enum Section {
     Rows,
     Uncertain,
@@ -40,7 +40,8 @@ fn normal_row(
     ensures row { IfOk result (λ found. found ≡ normal_row vars.now order.now terms.now right) }
     ensures narrow { IfOk result (λ found. IfSome found IsNarrowRow) }
 {
-    let Some(sums) = totals(alloc, order, places, terms)? else {
+    // Only the objective of MINIMIZE is negated.
+    let Some(sums) = totals(alloc, order, places, Sense::Max, terms)? else {
         return Ok(None);
     };
     narrow_row(alloc, vars, &sums, right)
@@ -86,7 +87,7 @@ fn add_related(
     }
 }
 
-#[tactic(auto, unfolding(crate::specs::Sections::part_of))]
+#[tactic(auto, unfolding(crate::specs::RowSteps::part_of))]
 fn part_of(section: Section, number: u32) -> Which
     ensures { result ≡ part_of section number }
 {
@@ -96,7 +97,7 @@ fn part_of(section: Section, number: u32) -> Which
     }
 }
 
-#[tactic(auto, unfolding(crate::specs::Sections::rows_in))]
+#[tactic(auto, unfolding(crate::specs::RowSteps::rows_in))]
 fn rows_in(section: Section, ast: &Ast) -> &[AstRow]
     ensures { result.now ≡ rows_in section ast.now }
 {

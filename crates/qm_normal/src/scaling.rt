@@ -2,7 +2,7 @@ ghost use Rattle.std.specs.Prelude.{◌≡◌, ◌<◌, ◌≤◌, ◌*◌, ◌+
 ghost use Rattle.qm_model.specs.Sizes.{reach_in_vars, row_size};
 ghost use Rattle.qm_math.specs.Ranges.{reach};
 ghost use Rattle.qm_normal.specs.Rows.{common_denominator, common_multiple, narrow_row, nonzero_from, times};
-ghost use Rattle.qm_normal.specs.Widths.{IsNarrowRow};
+ghost use Rattle.qm_normal.specs.RowSteps.{IsNarrowRow};
 
 use qm_frac::{Frac, gcd};
 use qm_io::Memory;
@@ -154,9 +154,26 @@ pub(crate) fn narrow_row(
     ensures row { IfOk result (λ found. found ≡ narrow_row vars.now sums.now right) }
     ensures narrow { IfOk result (λ found. IfSome found IsNarrowRow) }
 {
-    let Some(d) = denominator(sums, right) else {
-        return Ok(None);
-    };
+    match denominator(sums, right) {
+        Some(d) => narrow_row_times(alloc, vars, d, sums, right),
+        None => Ok(None),
+    }
+}
+
+/// The same, given the least common denominator.
+pub(crate) fn narrow_row_times(
+    alloc: Global,
+    vars: &[Var],
+    d: u128,
+    sums: &[Frac],
+    right: Frac,
+) -> Result<Option<Row>, Memory>
+    requires common { d ≡ common_denominator (right ∷ sums.now) }
+    requires small { d ≤ 2 ^ 126 }
+    requires few { length sums.now < 2 ^ 32 }
+    ensures row { IfOk result (λ found. found ≡ narrow_row vars.now sums.now right) }
+    ensures narrow { IfOk result (λ found. IfSome found IsNarrowRow) }
+{
     let Some(right) = times(d, right) else {
         return Ok(None);
     };

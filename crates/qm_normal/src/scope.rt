@@ -1,7 +1,7 @@
 ghost use Rattle.std.specs.Prelude.{◌≡◌, ◌&&◌, ◌||◌, not, Some, IfOk, if◌then◌else◌};
 ghost use Rattle.qm_parse.specs.Checks.{first_such, term_use, term_uses};
 ghost use Rattle.qm_normal.specs.Scopes.{continuous_early, continuous_universal, exists_in_uncertainty, scope_fault};
-ghost use Rattle.qm_normal.specs.Tables.{IsRolesOf, universal_by, whole_by};
+ghost use Rattle.qm_normal.specs.TableSteps.{IsRolesOf, universal_by, whole_by};
 
 use crate::fault::NormalFault;
 use crate::names::name_of;

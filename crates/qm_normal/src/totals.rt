@@ -1,12 +1,14 @@
 ghost use Rattle.std.specs.Prelude.{◌≡◌, ◌<◌, None, Some, IfOk, IfSome, MatchOption, length, if◌then◌else◌};
 ghost use Rattle.std.specs.Result.{result_ok};
-ghost use Rattle.qm_normal.specs.Places.{AreApart, IsPlacesOf};
+ghost use Rattle.qm_normal.specs.Normal.{maximised};
+ghost use Rattle.qm_normal.specs.PlaceSteps.{AreApart, IsPlacesOf};
 ghost use Rattle.qm_normal.specs.Rows.{is_constant, total, totals};
-ghost use Rattle.qm_normal.specs.SumSteps.{added_at, plus_constant};
+ghost use Rattle.qm_normal.specs.SumSteps.{added_at, plus_constant, maximised_term};
 
 use crate::places::Places;
 use qm_frac::Frac;
 use qm_io::Memory;
+use qm_model::Sense;
 use qm_parse::{AstTerm, Named};
 use std::alloc::Global;
 
@@ -28,21 +30,37 @@ fn add_at(sums: &mut [Frac], place: Option<u32>, coef: Frac) -> bool
     }
 }
 
-/// What the terms come to for each variable in game order; `None` where an addition leaves.
+/// A term as it is maximised: that of MINIMIZE is negated.
+fn maximised_term(sense: Sense, term: AstTerm) -> AstTerm
+    ensures { result ≡ maximised_term sense term }
+{
+    match sense {
+        Sense::Max => term,
+        Sense::Min => AstTerm {
+            coef: term.coef.neg(),
+            name: term.name,
+            at: term.at,
+        },
+    }
+}
+
+/// What the terms come to for each variable in game order, as they are maximised; `None` where an addition leaves.
 pub(crate) fn totals(
     alloc: Global,
     order: &[Named],
     places: &Places,
+    sense: Sense,
     terms: &[AstTerm],
 ) -> Result<Option<Vec<Frac>>, Memory>
     requires places { IsPlacesOf order.now places.now }
     requires apart { AreApart order.now }
     ensures length { IfOk result (λ found. IfSome found (λ sums. length sums.items ≡ length order.now)) }
-    ensures sums { IfOk result (λ found. MatchOption found (result_ok (totals order.now terms.now) ≡ None) (λ sums. result_ok (totals order.now terms.now) ≡ Some sums.items)) }
+    ensures sums { IfOk result (λ found. MatchOption found (result_ok (totals order.now (maximised sense terms.now)) ≡ None) (λ sums. result_ok (totals order.now (maximised sense terms.now)) ≡ Some sums.items)) }
 {
     let mut sums = vec![in alloc; Frac::whole(0); order.len()]?;
     for term in terms {
-        if !add_at(&mut sums, places.place_of(term), term.coef) {
+        let term = maximised_term(sense, *term);
+        if !add_at(&mut sums, places.place_of(&term), term.coef) {
             return Ok(None);
         }
     }
@@ -62,13 +80,14 @@ fn plus_constant(sum: Frac, term: &AstTerm) -> Option<Frac>
     }
 }
 
-/// What the constants come to; `None` where an addition leaves.
-pub(crate) fn total_of_constants(terms: &[AstTerm]) -> Option<Frac>
-    ensures { result ≡ result_ok (total is_constant terms.now) }
+/// What the constants come to, as they are maximised; `None` where an addition leaves.
+pub(crate) fn total_of_constants(sense: Sense, terms: &[AstTerm]) -> Option<Frac>
+    ensures { result ≡ result_ok (total is_constant (maximised sense terms.now)) }
 {
     let mut sum = Frac::whole(0);
     for term in terms {
-        match plus_constant(sum, term) {
+        let term = maximised_term(sense, *term);
+        match plus_constant(sum, &term) {
             Some(more) => sum = more,
             None => return None,
         }

@@ -1,8 +1,8 @@
 ghost use Rattle.std.specs.Prelude.{◌≡◌, ◌≤◌, ◌^◌, unsigned_abs, All, IsTrue, None, IfOk, map, if◌then◌else◌};
 ghost use Rattle.qm_model.specs.declared.variable.Player.TheVariants.{Exists, All as Universal};
 ghost use Rattle.qm_normal.specs.Limits.{fits_domain, variables_fault};
-ghost use Rattle.qm_normal.specs.Tables.{IsEndsOf, IsRolesOf, high_by, low_by, universal_by, var_by};
-ghost use Rattle.qm_normal.specs.Variables.{continuous_names, game_order, vars_of, whole_names};
+ghost use Rattle.qm_normal.specs.TableSteps.{IsEndsOf, IsRolesOf, high_by, low_by, universal_by, var_by};
+ghost use Rattle.qm_normal.specs.Variables.{game_order, vars_of};
 
 use crate::ends::Ends;
 use crate::names::name_of;
@@ -11,51 +11,6 @@ use qm_io::{List, Memory};
 use qm_model::{Player, Var};
 use qm_parse::{Ast, Named};
 use std::alloc::Global;
-
-/// The whole variables, in the order of ORDER.
-pub(crate) fn whole_names(alloc: Global, ast: &Ast, roles: &Roles) -> Result<List<Named>, Memory>
-    requires { IsRolesOf ast.now roles.now }
-    ensures { IfOk result (λ names. names ≡ whole_names ast.now) }
-{
-    let order = ast.order.as_slice();
-    let mut names = List::new(alloc);
-    for named in order {
-        if roles.is_whole(named.name) {
-            names.push(*named)?;
-        }
-    }
-    Ok(names)
-}
-
-/// The continuous variables, in the order of ORDER.
-pub(crate) fn continuous_names(
-    alloc: Global,
-    ast: &Ast,
-    roles: &Roles,
-) -> Result<List<Named>, Memory>
-    requires { IsRolesOf ast.now roles.now }
-    ensures { IfOk result (λ names. names ≡ continuous_names ast.now) }
-{
-    let order = ast.order.as_slice();
-    let mut names = List::new(alloc);
-    for named in order {
-        if !roles.is_whole(named.name) {
-            names.push(*named)?;
-        }
-    }
-    Ok(names)
-}
-
-/// The variables in game order.
-pub(crate) fn game_order(alloc: Global, ast: &Ast, roles: &Roles) -> Result<List<Named>, Memory>
-    requires { IsRolesOf ast.now roles.now }
-    ensures { IfOk result (λ names. names ≡ game_order ast.now) }
-{
-    let mut names = whole_names(alloc, ast, roles)?;
-    let continuous = continuous_names(alloc, ast, roles)?;
-    names.append(continuous.as_slice())?;
-    Ok(names)
-}
 
 /// The variables of a text whose domains are within the limits, given their names in game order.
 pub(crate) fn vars(

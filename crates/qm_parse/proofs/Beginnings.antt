@@ -62,18 +62,18 @@ answered ast = Ok ast
 abbrev pub failed : Unread → Result Ast Unread
 failed fault = Err fault
 
-pub not_both : (ast : Ast) (fault : Unread) → answered ast ≡ failed fault → ⊥
-not_both ast fault e = cc
+pub answered_is_not_failed : (ast : Ast) (fault : Unread) → answered ast ≡ failed fault → ⊥
+answered_is_not_failed ast fault e = cc
 
 -- what is read has no number that leaves
 pub read_in_range : (state : State) (draft : Draft) (symbols : List Symbol) (end : Place) (ast : Ast) → read state draft symbols end ≡ Ok ast → AreInRange symbols
 read_in_range state draft [] end ast e = tt
 read_in_range state draft (symbol ∷ symbols) end ast e =
     elim (next_cases state symbol) [
-      | inl none ↦ absurd (not_both ast (unread.Expected symbol.place (expected state.stage symbol)) (sym e ∙ refused state draft symbol symbols end none))
+      | inl none ↦ absurd (answered_is_not_failed ast (unread.Expected symbol.place (expected state.stage symbol)) (sym e ∙ refused state draft symbol symbols end none))
       | inr some ↦
           elim (leaves_cases symbol.word) [
-            | inl leaving ↦ absurd (not_both ast (unread.Number symbol.place) (sym e ∙ left state some.0 draft symbol symbols end some.1 leaving))
+            | inl leaving ↦ absurd (answered_is_not_failed ast (unread.Number symbol.place) (sym e ∙ left state some.0 draft symbol symbols end some.1 leaving))
             | inr stays ↦ (
               stays,
               read_in_range some.0 (noted state.stage state.seen.uncertainty symbol.word symbol.place draft) symbols end ast

@@ -3,7 +3,7 @@ use Rattle.std.proofs.Common.{◌≡◌, ℕ, Bool, true, false, ◌&&◌, ◌||
 use Rattle.std.proofs.lemmas.Bool.Decides.{nat_tests}
 use Rattle.qm_lex.specs.declared.place.Place.{Place}
 use Rattle.qm_parse.specs.Checks.{earlier, earliest, is_before}
-use Rattle.qm_parse.specs.Surveys.{earlier_of}
+use Rattle.qm_parse.specs.SurveySteps.{earlier_of}
 use Rattle.qm_parse.specs.declared.ast.Named.{Named}
 
 abbrev before : ℕ → ℕ → ℕ → ℕ → Bool

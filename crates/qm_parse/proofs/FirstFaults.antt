@@ -1,5 +1,6 @@
 -- What is not read has a first fault. That what is read is a text is a premise here.
 use Rattle.std.proofs.Common.{◌≡◌, ◌≢◌, ℕ, Bool, true, false, List, [], ◌∷◌, ◌++◌, ◌⊎◌, ◌↔◌, inl, inr, Option, Some, None, Ok, Err, All, suc, refl, sym, ap, subst, ◌∙◌, append_assoc, append-nil, arith}
+use Rattle.std.proofs.lemmas.Bool.{cases_Bool}
 use Rattle.qm_lex.specs.declared.place.Place.{Place}
 use Rattle.qm_parse.specs.declared.ast.Ast.{Ast}
 use Rattle.qm_parse.specs.declared.draft.Draft.{Draft}
@@ -18,7 +19,7 @@ use Rattle.qm_parse.specs.Stages.{expected, next_state, wanted}
 use Rattle.qm_parse.specs.Texts.{IsText, KnowColons, KnowsColon, is_colon_next}
 use Rattle.qm_parse.proofs.ReadSteps.{reads_symbol}
 use Rattle.qm_parse.proofs.ReadTexts.{text_reads}
-use Rattle.qm_parse.proofs.Beginnings.{AreInRange, accepted_unlabelled, failed, front_moves, front_read, in_range-append, is_label, left, next_cases, next_in_range, no_label_symbol, not_both, plain_no_label, refused, refused_unlabelled, state_behind-append, state_behind-step}
+use Rattle.qm_parse.proofs.Beginnings.{AreInRange, accepted_unlabelled, failed, front_moves, front_read, in_range-append, is_label, left, next_cases, next_in_range, no_label_symbol, answered_is_not_failed, plain_no_label, refused, refused_unlabelled, state_behind-append, state_behind-step}
 use Rattle.qm_parse.proofs.Endings.{AreRead, ending, ending_colons, ending_label, ending_plain, ending_read}
 
 -- what is read is a text
@@ -112,15 +113,11 @@ word_cases (Reserved word) = inr (inr (λ n labels e. absurd cc))
 word_cases Infinite = inr (inr (λ n labels e. absurd cc))
 word_cases Free = inr (inr (λ n labels e. absurd cc))
 
-bool_cases : (b : Bool) → (b ≡ true) ⊎ (b ≡ false)
-bool_cases true = inl refl
-bool_cases false = inr refl
-
 closes_last : (state next : State) (symbol : Symbol) → next_state state symbol ≡ Some next → leaves symbol.word ≡ false → Closes state (symbol ∷ [])
 closes_last state next symbol moves stays =
     elim (word_cases symbol.word) [
       | inl label ↦
-          elim (bool_cases (is_label next.stage)) [
+          elim (cases_Bool (is_label next.stage)) [
             | inl is ↦ closes_as_it_is state next symbol moves stays (label_knows symbol label.0 (ending next.stage next.seen.order) label.1 (ending_label next.stage next.seen.order is))
             | inr other ↦ closes_unlabelled state next symbol label.0 label.1 other moves stays
           ]
@@ -204,7 +201,7 @@ no_text names ast state front symbol more reached ranges none colons text =
     let end : Place = record { line = 1; column = 1 } in
     let over = front_read start state (empty_draft names) front reached ranges in
     let all = ap (λ xs. read start (empty_draft names) xs end) (append_assoc front (symbol ∷ []) more) in
-    not_both ast (unread.Expected symbol.place (expected state.stage symbol))
+    answered_is_not_failed ast (unread.Expected symbol.place (expected state.stage symbol))
     (sym (text_reads names ((front ++ symbol ∷ []) ++ more) ast end colons text) ∙ all ∙ over.1 (symbol ∷ more) end ∙ refused state over.0 symbol more end none)
 
 stops_as : (state : State) (front : List Symbol) (symbol : Symbol) → state_behind start front ≡ Some state → AreInRange front → next_state state symbol ≡ None → ¬ CanGoOn (front ++ symbol ∷ [])
@@ -232,7 +229,7 @@ failed_is one other e = cc
 -- where the text ends too early
 finished_fault : (s : Stage) (draft other : Draft) (end : Place) (fault : Unread) → finished s draft end ≡ Err fault → (fault ≡ unread.Expected end (wanted s)) × (finished s other end ≡ Err fault)
 unfolding finished
-finished_fault stage.Ended draft other end fault e = absurd (not_both draft.ast fault e)
+finished_fault stage.Ended draft other end fault e = absurd (answered_is_not_failed draft.ast fault e)
 finished_fault s draft other end fault e = (sym (failed_is (unread.Expected end (wanted s)) fault e), e)
 
 read_end : (state : State) (draft : Draft) (end : Place) → read state draft [] end ≡ finished state.stage draft end
@@ -255,7 +252,7 @@ ends_too_early written_is state front draft end fault reached ranges colons e =
         λ names ast text.
             let over = front_read start state (empty_draft names) front reached ranges in
             let all = ap (λ xs. read start (empty_draft names) xs end) (sym (append-nil front)) in
-            not_both ast fault
+            answered_is_not_failed ast fault
             (sym (text_reads names front ast end (subst KnowColons (append-nil front) colons) text) ∙ all ∙ over.1 [] end ∙ read_end state over.0 end ∙ (finished_fault state.stage draft over.0 end fault ended).1),
       );
     }
@@ -343,7 +340,7 @@ fault_behind written_is state front (symbol ∷ symbols) draft end fault reached
     elim (next_cases state symbol) [
       | inl none ↦ may_not_follow written_is state front symbols symbol draft end fault reached ranges colons none e
       | inr some ↦
-          elim (bool_cases (leaves symbol.word)) [
+          elim (cases_Bool (leaves symbol.word)) [
             | inl leaving ↦ number_leaves written_is state some.0 front symbols symbol draft end fault reached ranges colons some.1 leaving e
             | inr stays ↦
                 let regrouped = append_assoc front (symbol ∷ []) symbols in

@@ -7,7 +7,7 @@ use Rattle.qm_parse.specs.declared.word.Symbol.{Symbol}
 use Rattle.qm_parse.specs.declared.word.Word.TheVariants.{Related, Infinite, Free}
 use Rattle.qm_parse.specs.Drafts.{turned}
 use Rattle.qm_parse.specs.Known.{AreBoundsBelow, AreKnown}
-use Rattle.qm_parse.specs.Parts.{Bound, BoundBody, BoundEnds, FreeName, Further, NameFirst, OneBound, Says, Value, ValueFirst}
+use Rattle.qm_parse.specs.Parts.{BoundOf, BoundBody, BoundEnds, FreeName, Further, NameFirst, OneBound, Says, Value, ValueFirst}
 use Rattle.qm_parse.proofs.KnownParts.{Given, Gives, gives-Either, gives-NameAt, gives-Says, gives-then}
 use Rattle.qm_parse.proofs.KnownRows.{second, gives-Signed, gives-SignedNumber}
 
@@ -64,5 +64,5 @@ gives-BoundBody n bounds = record { given = body_given n bounds }
 gives-BoundEnds : (n : ℕ) → Gives n BoundEnds Unit
 gives-BoundEnds n = record { given = bound_end_given n }
 
-pub gives-Bound : (n : ℕ) (bounds : List AstBound) → Gives n (Bound bounds) (AreBoundsBelow n bounds)
+pub gives-Bound : (n : ℕ) (bounds : List AstBound) → Gives n (BoundOf bounds) (AreBoundsBelow n bounds)
 gives-Bound n bounds = gives-then (gives-BoundBody n bounds) (gives-BoundEnds n) (λ below _. below)

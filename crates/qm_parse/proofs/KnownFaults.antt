@@ -3,6 +3,7 @@ use Rattle.std.proofs.Common.{cond, ◌≡◌, ℕ, ◌<◌, Bool, true, false, 
 use Rattle.std.specs.Prelude.{All, IfSome}
 use Rattle.std.specs.List.{flat_map}
 use Rattle.std.proofs.lemmas.List.Elements.{All-append, All-cons, All-filter, All-head, All-map, All-nil, All-tail}
+use Rattle.std.proofs.lemmas.Bool.{cond_both}
 use Rattle.qm_parse.specs.Checks.{bound_use, bound_uses, both_players, earlier, earliest, first_such, has_name, infinite, is_before, is_infinite, name_fault, offended, or_else, repeated, row_uses, term_use, term_uses, twice, unknown, unordered, uses, without_upper}
 use Rattle.qm_parse.specs.declared.ast.Ast.{Ast}
 use Rattle.qm_parse.specs.declared.ast.AstBound.{AstBound}
@@ -30,14 +31,10 @@ found-repeated P others [] all = tt
 found-repeated P others (named ∷ list) all =
     one_or_other P (has_name others named.name) (Some named) (repeated (named ∷ others) list) (All-head P named list all) (found-repeated P (named ∷ others) list (All-tail P named list all))
 
-this_or_that : {A : Type 0} (P : A → Type 0) (b : Bool) (one other : A) → P one → P other → P (cond b one other)
-this_or_that P true one other a b = a
-this_or_that P false one other a b = b
-
 found-earlier : (P : Named → Type 0) (one : Named) (other : Option Named) → P one → IfSome other P → P (earlier one other)
 unfolding earlier
 found-earlier P one None a b = a
-found-earlier P one (Some other) a b = this_or_that P (is_before other.at one.at) other one b a
+found-earlier P one (Some other) a b = cond_both (is_before other.at one.at) other one P (λ _. b) (λ _. a)
 
 pub found-earliest : (P : Named → Type 0) (list : List Named) → All P list → IfSome (earliest list) P
 unfolding earliest

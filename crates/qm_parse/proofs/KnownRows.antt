@@ -13,7 +13,7 @@ use Rattle.qm_parse.specs.declared.word.Symbol.{Symbol}
 use Rattle.qm_parse.specs.declared.word.Word.TheVariants.{Number, Sign, Related, Colon, Keyword as Reserved}
 use Rattle.qm_parse.specs.Drafts.{one}
 use Rattle.qm_parse.specs.Known.{AreKnown, AreRowsBelow, AreTermsBelow, IsTermBelow}
-use Rattle.qm_parse.specs.Parts.{◌then◌, Constant, Each, Either, Label, Multiple, Objective, ObjectiveTerm, OneOf, OptionalLabel, Part, Row, RowEnds, RowTerm, RowsHeading, Says, SenseWord, SignOf, Signed, SignedNumber, SignedTerm, Terms}
+use Rattle.qm_parse.specs.Parts.{◌then◌, Constant, Each, Either, Label, Multiple, ObjectiveOf, ObjectiveTerm, OneOf, OptionalLabel, Part, RowOf, RowEnds, RowTerm, RowsHeading, Says, SenseWord, SignOf, Signed, SignedNumber, SignedTerm, Terms}
 use Rattle.qm_parse.proofs.KnownParts.{Given, Gives, gives-Each, gives-Either, gives-NameAt, gives-Nothing, gives-NothingIf, gives-NumberAt, gives-Says, gives-then}
 use Rattle.qm_parse.proofs.WrittenSteps.{number_body}
 
@@ -86,7 +86,7 @@ pub gives-SenseWord : (n : ℕ) (sense : Sense) → Gives n (SenseWord sense) Un
 gives-SenseWord n Max = gives-OneOf n keyword.Maximize keyword.Max
 gives-SenseWord n Min = gives-OneOf n keyword.Minimize keyword.Min
 
-pub gives-Objective : (n : ℕ) (terms : List AstTerm) → Gives n (Objective terms) (AreTermsBelow n terms)
+pub gives-Objective : (n : ℕ) (terms : List AstTerm) → Gives n (ObjectiveOf terms) (AreTermsBelow n terms)
 gives-Objective n terms = gives-then (gives-OptionalLabel n) (gives-Terms n ObjectiveTerm (gives-ObjectiveTerm n) terms) second
 
 pub gives-RowsHeading : (n : ℕ) → Gives n RowsHeading Unit
@@ -114,8 +114,8 @@ row_body_gives n row =
     (λ below _. below))
     second
 
-gives-Row : (n : ℕ) (row : AstRow) → Gives n (Row row) (AreTermsBelow n row.terms)
+gives-Row : (n : ℕ) (row : AstRow) → Gives n (RowOf row) (AreTermsBelow n row.terms)
 gives-Row n row = record { given = λ symbols rest known h. (row_body_gives n row).given symbols rest known h.2 }
 
-pub gives-rows : (n : ℕ) (rows : List AstRow) → Gives n (Each Row rows) (AreRowsBelow n rows)
-gives-rows n rows = gives-Each n Row (λ row. AreTermsBelow n row.terms) (gives-Row n) rows
+pub gives-rows : (n : ℕ) (rows : List AstRow) → Gives n (Each RowOf rows) (AreRowsBelow n rows)
+gives-rows n rows = gives-Each n RowOf (λ row. AreTermsBelow n row.terms) (gives-Row n) rows

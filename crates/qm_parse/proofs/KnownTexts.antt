@@ -12,7 +12,7 @@ use Rattle.qm_parse.specs.declared.stage.NameList.TheVariants.{Generals, Binarie
 use Rattle.qm_parse.specs.declared.word.Symbol.{Symbol}
 use Rattle.qm_parse.specs.declared.word.Word.TheVariants.{Keyword as Reserved}
 use Rattle.qm_parse.specs.Known.{AreBoundsBelow, AreKnown, AreNamesBelow, AreRowsBelow, AreTermsBelow, HasNumbersBelow}
-use Rattle.qm_parse.specs.Parts.{◌then◌, Bound, Each, ListHeading, ListedName, Says}
+use Rattle.qm_parse.specs.Parts.{◌then◌, BoundOf, Each, ListHeading, ListedName, Says}
 use Rattle.qm_parse.specs.Reading.{empty_ast}
 use Rattle.qm_parse.specs.Texts.{IsText, SectionOf, TextOf, Written, WrittenText, with_names, with_written}
 use Rattle.qm_parse.specs.Texts.Written.{Uncertain, Bounded, Listed}
@@ -38,7 +38,7 @@ SectionBelow n (Listed list names) = AreNamesBelow n names
 
 gives-SectionOf : (n : ℕ) (written : Written) → Gives n (SectionOf written) (SectionBelow n written)
 gives-SectionOf n (Uncertain rows) = gives-then (gives-Says n (Reserved keyword.Uncertainty)) (gives-then (gives-RowsHeading n) (gives-rows n rows) second) second
-gives-SectionOf n (Bounded bounds) = gives-then (gives-Says n (Reserved keyword.Bounds)) (gives-Each n Bound (AreBoundsBelow n) (gives-Bound n) bounds) second
+gives-SectionOf n (Bounded bounds) = gives-then (gives-Says n (Reserved keyword.Bounds)) (gives-Each n BoundOf (AreBoundsBelow n) (gives-Bound n) bounds) second
 gives-SectionOf n (Listed list names) = gives-then (gives-ListHeading n list) (gives-names n names) second
 
 record TextBelow (n : ℕ) (text : WrittenText) : Type 0 where

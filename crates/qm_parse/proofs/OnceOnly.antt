@@ -1,7 +1,7 @@
 -- Lists that hold each name once, and the first name that stands a second time.
 use Rattle.std.proofs.Common.{◌≡◌, ◌≢◌, suc, Bool, true, false, ◌||◌, eqb, List, [], ◌∷◌, ◌++◌, Some, None, arith, refl, sym, ap, ◌∙◌, subst}
 use Rattle.std.specs.Prelude.{All, AllPairs}
-use Rattle.std.proofs.lemmas.Bool.{false≢true}
+use Rattle.std.proofs.lemmas.Bool.{false≢true, or_left}
 use Rattle.std.proofs.lemmas.Bool.Decides.{Decides-eqb}
 use Rattle.std.proofs.lemmas.List.Elements.{All-cons, All-head, All-nil, All-tail, All-weaker}
 use Rattle.std.proofs.lemmas.List.Kept.{AllPairs-cons}
@@ -96,15 +96,12 @@ moved true false c e = refl
 moved false true c e = refl
 moved false false c e = e
 
-or_true : (a b : Bool) → a ≡ true → (a || b) ≡ true
-or_true a b e = rw e refl
-
 second_here : (others : List Named) (named : Named) (list : List Named) → has_name others named.name ≡ true → IsSecondAfter others (named ∷ list) named
 second_here others named list here = record {
   before = [];
   behind = list;
   stands = refl;
-  again = or_true (has_name others named.name) false here;
+  again = or_left (has_name others named.name) false here;
   apart = All-nil (λ other. ¬ Has others other.name);
   once_before = AllPairs-nil OtherName;
 }

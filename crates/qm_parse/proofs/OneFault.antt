@@ -1,5 +1,6 @@
 -- Symbols have one first fault at most, and none where they are a text.
 use Rattle.std.proofs.Common.{◌≡◌, ℕ, true, false, List, [], ◌∷◌, ◌++◌, ◌⊎◌, inl, inr, Some, None, refl, sym, ap, subst, ◌∙◌, append_assoc, append-nil}
+use Rattle.std.proofs.lemmas.Bool.{true≢false}
 use Rattle.qm_lex.specs.declared.place.Place.{Place}
 use Rattle.qm_parse.specs.declared.ast.Ast.{Ast}
 use Rattle.qm_parse.specs.declared.stage.State.{State}
@@ -84,14 +85,11 @@ stays-range (Reserved word) e = refl
 stays-range Infinite e = refl
 stays-range Free e = refl
 
-apart_bools : true ≡ false → ⊥
-apart_bools e = absurd cc
-
 -- where a beginning goes on with a symbol there is no fault
 no_fault_within : (front : List Symbol) (state : State) (symbol : Symbol) (behind rest : List Symbol) (end : Place) (fault : Unread) → CanGoOn (front ++ symbol ∷ behind)
     → IsFaultBehind front state (symbol ∷ rest) end fault → ⊥
 no_fault_within front state symbol behind rest end fault further (inl number) =
-    apart_bools (sym (leaving_word symbol.word number.1) ∙ beginning_in_range front symbol behind further)
+    true≢false (sym (leaving_word symbol.word number.1) ∙ beginning_in_range front symbol behind further)
 no_fault_within front state symbol behind rest end fault further (inr other) =
     let stays = beginning_in_range front symbol behind further in
     let same : in_range symbol ≡ symbol = ap (λ w. record symbol { word = w }) (stays-range symbol.word stays) in

@@ -16,7 +16,7 @@ use Rattle.qm_parse.specs.declared.word.Symbol.{Symbol}
 use Rattle.qm_parse.specs.declared.word.Word.{Word}
 use Rattle.qm_parse.specs.declared.word.Word.TheVariants.{Name, Number, Sign, Related, Keyword as Reserved, Infinite, Free}
 use Rattle.qm_parse.specs.Drafts.{bound_noted, bounded_noted, list_noted, noted, row_begin_noted, signed, signed_by, turned, turned_noted, value_by, with_bound, with_bounded, with_free, with_name, with_relation, with_turned, with_value}
-use Rattle.qm_parse.specs.Parts.{Bound, BoundBody, BoundEnds, Each, FreeName, Further, NameAt, NameFirst, OneBound, Says, SignOf, Value, ValueFirst, is_odd}
+use Rattle.qm_parse.specs.Parts.{BoundOf, BoundBody, BoundEnds, Each, FreeName, Further, NameAt, NameFirst, OneBound, Says, SignOf, Value, ValueFirst, is_odd}
 use Rattle.qm_parse.specs.Reading.{leaves, read}
 use Rattle.qm_parse.specs.Stages.{bound_begun, may_end, may_share_line, row_begun, step}
 use Rattle.qm_parse.specs.Texts.{KnowColons}
@@ -374,7 +374,7 @@ next_begins next rest (inl e) at_end named = (subst BoundBegins (sym e) bound_en
 next_begins next rest (inr e) at_end named = (subst BoundBegins (sym e) bound_named, subst (λ s. FirstFits s rest) (sym e) named)
 
 pub bound_goes : (seen : Seen) (ast : Ast) (s : Stage) (bounds : List AstBound) (draft : Draft) (symbols rest : List Symbol) → BoundBegins s → IsBetween ast draft → KnowColons symbols → FirstFits s symbols
-    → Bound bounds symbols rest → (next : Stage) × BoundBegins next × FirstFits next rest × GoesOn seen s draft symbols next (IsBetween (bounds_added ast bounds)) rest
+    → BoundOf bounds symbols rest → (next : Stage) × BoundBegins next × FirstFits next rest × GoesOn seen s draft symbols next (IsBetween (bounds_added ast bounds)) rest
 bound_goes seen ast s bounds draft symbols rest begins is colons fits (behind, body, ends) =
     let (next, where_next, (d, holds, known, reads)) = bound_body_goes seen ast s bounds draft symbols behind begins is colons fits body in
     let ended = bound_ends_fit behind rest ends in
@@ -382,7 +382,7 @@ bound_goes seen ast s bounds draft symbols rest begins is colons fits (behind, b
     (next, next_is, next_fits, (d, holds, subst KnowColons ended.0 known, λ end. reads end ∙ ap (λ xs. read (state_at next seen) d xs end) ended.0))
 
 pub bounds_go : (seen : Seen) (ast : Ast) (s : Stage) (bounds : List (List AstBound)) (draft : Draft) (symbols rest : List Symbol) → BoundBegins s → IsBetween ast draft → KnowColons symbols → FirstFits s symbols
-    → Each Bound bounds symbols rest → (next : Stage) × PartEnds next × GoesOn seen s draft symbols next (IsBetween (bounds_added ast (flat_map (λ bound. bound) bounds))) rest
+    → Each BoundOf bounds symbols rest → (next : Stage) × PartEnds next × GoesOn seen s draft symbols next (IsBetween (bounds_added ast (flat_map (λ bound. bound) bounds))) rest
 bounds_go seen ast s [] draft symbols rest begins is colons fits p =
     (s, begins.ends, goes_nowhere seen s draft symbols rest (IsBetween (bounds_added ast [])) p (subst (λ a. IsBetween a draft) (sym (bounds_added-none ast)) is) colons)
 bounds_go seen ast s (bound ∷ bounds) draft symbols rest begins is colons fits (between, first, others) =

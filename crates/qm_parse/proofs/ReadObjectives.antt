@@ -14,7 +14,7 @@ use Rattle.qm_parse.specs.declared.word.Symbol.{Symbol}
 use Rattle.qm_parse.specs.declared.word.Word.{Word}
 use Rattle.qm_parse.specs.declared.word.Word.TheVariants.{Name, Number, Sign, Colon, Keyword as Reserved}
 use Rattle.qm_parse.specs.Drafts.{constant_noted, first_noted, noted, objective_noted, one, signed, signed_by, with_coef, with_constant, with_multiple, with_objective, with_single}
-use Rattle.qm_parse.specs.Parts.{Constant, Each, Either, Label, Multiple, NameAt, NumberAt, Objective, ObjectiveTerm, RowsHeading, Terms, is_odd}
+use Rattle.qm_parse.specs.Parts.{Constant, Each, Either, Label, Multiple, NameAt, NumberAt, ObjectiveOf, ObjectiveTerm, RowsHeading, Terms, is_odd}
 use Rattle.qm_parse.specs.Reading.{leaves}
 use Rattle.qm_parse.specs.Stages.{may_share_line, objective_begun, step}
 use Rattle.qm_parse.specs.Texts.{KnowColons, is_colon_next}
@@ -29,9 +29,6 @@ pub record SignedDraft (ast : Ast) (negative : Bool) (draft : Draft) : Type 0 wh
   pub ast_is : draft.ast ≡ ast
   pub terms_are : draft.terms ≡ []
   pub sign_is : draft.negative ≡ negative
-
-pub without_signs : (ast : Ast) (draft : Draft) → IsBetween ast draft → SignedDraft ast false draft
-without_signs ast draft is = record { ast_is = is.ast_is; terms_are = is.terms_are; sign_is = is.sign_is }
 
 pub signed_is : (ast : Ast) (odd : Bool) (draft : Draft) → IsBetween ast draft → SignedDraft ast odd (signed odd draft)
 unfolding signed
@@ -339,7 +336,7 @@ objective_label_goes seen ast draft (symbol ∷ symbols) rest is colons (n, plac
     (flagged_label n place (symbol ∷ symbols) between colons (says_colon between rest colon) named))
     (λ d holds known. says_goes seen stage.ObjectiveLabel stage.ObjectiveBegin d Colon between rest (IsBetween ast) known refl refl refl (λ p. holds) colon)
 
-pub objective_goes : (seen : Seen) (ast : Ast) (terms : List AstTerm) (draft : Draft) (symbols between rest : List Symbol) → IsBetween ast draft → KnowColons symbols → Objective terms symbols between
+pub objective_goes : (seen : Seen) (ast : Ast) (terms : List AstTerm) (draft : Draft) (symbols between rest : List Symbol) → IsBetween ast draft → KnowColons symbols → ObjectiveOf terms symbols between
     → RowsHeading between rest → GoesOn seen stage.ObjectiveFirst draft symbols stage.RowsBegin (IsBetween (objective_added ast terms)) rest
 objective_goes seen ast terms draft symbols between rest is colons (behind_label, inl label, body) heading =
     goes_then seen stage.ObjectiveFirst stage.ObjectiveBegin stage.RowsBegin draft symbols behind_label rest (IsBetween ast) (IsBetween (objective_added ast terms))

@@ -14,7 +14,7 @@ use Rattle.qm_parse.specs.declared.word.Symbol.{Symbol}
 use Rattle.qm_parse.specs.declared.word.Word.{Word}
 use Rattle.qm_parse.specs.declared.word.Word.TheVariants.{Name, Number, Sign, Related, Colon, Keyword as Reserved}
 use Rattle.qm_parse.specs.Drafts.{noted, right_noted, row_begin_noted, row_noted, row_of, signed, signed_by, with_relation, with_row, with_row_at}
-use Rattle.qm_parse.specs.Parts.{Each, Label, Multiple, NameAt, Row, RowEnds, RowTerm, Says, SignOf, SignedNumber, SignedTerm, StandsAt, Terms, is_odd}
+use Rattle.qm_parse.specs.Parts.{Each, Label, Multiple, NameAt, RowOf, RowEnds, RowTerm, Says, SignOf, SignedNumber, SignedTerm, StandsAt, Terms, is_odd}
 use Rattle.qm_parse.specs.Reading.{leaves, read}
 use Rattle.qm_parse.specs.Stages.{may_share_line, row_begun, step}
 use Rattle.qm_parse.specs.Texts.{KnowColons, is_colon_next}
@@ -243,7 +243,7 @@ row_terms_of [] symbols rest some p = absurd (some refl)
 row_terms_of (first ∷ others) symbols rest some (between, term, further) = (first, others, refl, between, term, further)
 
 pub row_goes : (seen : Seen) (ast : Ast) (s : Stage) (row : AstRow) (draft : Draft) (symbols rest : List Symbol) → RowBegins s → IsBetween ast draft → KnowColons symbols → FirstFits s symbols
-    → Row row symbols rest → GoesOn seen s draft symbols stage.RowEnd (RowDone seen ast row rest) rest
+    → RowOf row symbols rest → GoesOn seen s draft symbols stage.RowEnd (RowDone seen ast row rest) rest
 row_goes seen ast s row draft symbols rest begins is colons fits (some, stands, (behind_label, inl label, (behind_terms, terms, (behind_relation, related, (behind, right, ends))))) =
     let parts = row_terms_of row.terms behind_label behind_terms some terms in
     row_closed seen s ast row draft symbols behind rest ends
@@ -261,7 +261,7 @@ row_goes seen ast s row draft symbols rest begins is colons fits (some, stands, 
 
 -- rows, one behind the other, of which the last leaves where a row may begin
 pub rows_go : (seen : Seen) (ast : Ast) (s : Stage) (rows : List AstRow) (draft : Draft) (symbols rest : List Symbol) → RowBegins s → IsBetween ast draft → KnowColons symbols → FirstFits s symbols
-    → Each Row rows symbols rest → (next : Stage) × ((next ≡ s) ⊎ (next ≡ stage.RowEnd)) × GoesOn seen s draft symbols next (IsBetween (rows_added seen.uncertainty ast rows)) rest
+    → Each RowOf rows symbols rest → (next : Stage) × ((next ≡ s) ⊎ (next ≡ stage.RowEnd)) × GoesOn seen s draft symbols next (IsBetween (rows_added seen.uncertainty ast rows)) rest
 rows_go seen ast s [] draft symbols rest begins is colons fits p =
     (s, inl refl, goes_nowhere seen s draft symbols rest (IsBetween (rows_added seen.uncertainty ast [])) p (subst (λ a. IsBetween a draft) (sym (rows_added-none seen.uncertainty ast)) is) colons)
 rows_go seen ast s (row ∷ rows) draft symbols rest begins is colons fits (between, first, others) =

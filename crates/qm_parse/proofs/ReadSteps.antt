@@ -100,11 +100,6 @@ pub reads_within : (stage next : Stage) (seen : Seen) (draft : Draft) (symbol : 
 reads_within stage next seen draft symbol rest word is shares steps stays =
     reads_word stage next seen draft symbol rest word is (fits_shared stage symbol (ap (may_share_line stage) is ∙ shares)) steps stays
 
-next_state-same : (stage other next : Stage) (seen : Seen) (symbol : Symbol) → fits_line stage symbol ≡ true → fits_line other symbol ≡ true
-    → step stage symbol.word ≡ Some next → step other symbol.word ≡ Some next → next_state (state_at stage seen) symbol ≡ next_state (state_at other seen) symbol
-next_state-same stage other next seen symbol fits fits_other steps steps_other =
-    step_taken stage next seen symbol fits steps ∙ sym (step_taken other next seen symbol fits_other steps_other)
-
 -- a token that may follow in two stages and leads to one draft
 pub reads_same : (stage other next : Stage) (seen : Seen) (draft behind : Draft) (symbol : Symbol) (rest : List Symbol) (word : Word) → symbol.word ≡ word
     → fits_line stage symbol ≡ true → fits_line other symbol ≡ true

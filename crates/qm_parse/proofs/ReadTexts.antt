@@ -14,7 +14,7 @@ use Rattle.qm_parse.specs.declared.unread.Unread.{Unread}
 use Rattle.qm_parse.specs.declared.word.Symbol.{Symbol}
 use Rattle.qm_parse.specs.declared.word.Word.TheVariants.{Keyword as Reserved}
 use Rattle.qm_parse.specs.Drafts.{noted, sense_of, start_noted, with_sense}
-use Rattle.qm_parse.specs.Parts.{Each, Objective, Row, RowsHeading, Says, SenseWord}
+use Rattle.qm_parse.specs.Parts.{Each, ObjectiveOf, RowOf, RowsHeading, Says, SenseWord}
 use Rattle.qm_parse.specs.Reading.{empty_ast, empty_draft, finished, leaves, read, start}
 use Rattle.qm_parse.specs.Stages.{followed, may_share_line, step}
 use Rattle.qm_parse.specs.Texts.{AreSections, IsText, KnowColons, SectionOf, TextOf, WrittenText, ast_of}
@@ -70,7 +70,7 @@ end_reads s seen ast draft symbols end ends is ordered says =
 abbrev objective_ast : List (List ℕ) → WrittenText → Ast
 objective_ast names text = record (empty_ast names) { sense = text.sense; objective = text.objective }
 
-objective_part : (names : List (List ℕ)) (text : WrittenText) (symbols b c d : List Symbol) → KnowColons symbols → SenseWord text.sense symbols b → Objective text.objective b c → RowsHeading c d
+objective_part : (names : List (List ℕ)) (text : WrittenText) (symbols b c d : List Symbol) → KnowColons symbols → SenseWord text.sense symbols b → ObjectiveOf text.objective b c → RowsHeading c d
     → GoesOn start.seen stage.Start (empty_draft names) symbols stage.RowsBegin (IsBetween (objective_ast names text)) d
 unfolding empty_ast
 objective_part names text symbols b c d colons sense objective heading =
@@ -84,7 +84,7 @@ RowsRead names text symbols rest =
     (next : Stage) × PartEnds next × GoesOn start.seen stage.Start (empty_draft names) symbols next (IsBetween (rows_ast names text)) rest
 
 rows_part : (names : List (List ℕ)) (text : WrittenText) (symbols between rest : List Symbol)
-    → GoesOn start.seen stage.Start (empty_draft names) symbols stage.RowsBegin (IsBetween (objective_ast names text)) between → Each Row text.rows between rest → RowsRead names text symbols rest
+    → GoesOn start.seen stage.Start (empty_draft names) symbols stage.RowsBegin (IsBetween (objective_ast names text)) between → Each RowOf text.rows between rest → RowsRead names text symbols rest
 unfolding start empty_ast may_share_line
 rows_part names text symbols between rest (draft, is, known, reads) rows =
     let (next, where_next, (behind, behind_is, last, further)) =

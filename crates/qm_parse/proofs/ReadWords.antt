@@ -24,10 +24,6 @@ pub says_colons : (word : Word) (symbols rest : List Symbol) → KnowColons symb
 says_colons word [] rest colons p = absurd p
 says_colons word (symbol ∷ symbols) rest colons p = subst KnowColons p.1 colons.1
 
-pub name_colons : (n : ℕ) (at : Place) (symbols rest : List Symbol) → KnowColons symbols → NameAt n at symbols rest → KnowColons rest
-name_colons n at [] rest colons p = absurd p
-name_colons n at (symbol ∷ symbols) rest colons p = subst KnowColons p.2 colons.1
-
 to_rest : (seen : Seen) (stage next : Stage) (draft behind : Draft) (symbols more rest : List Symbol) → more ≡ rest
     → AreReadAs (state_at stage seen) draft symbols (state_at next seen) behind more → AreReadAs (state_at stage seen) draft symbols (state_at next seen) behind rest
 to_rest seen stage next draft behind symbols more rest same p = λ end. p end ∙ ap (λ xs. read (state_at next seen) behind xs end) same

@@ -7,7 +7,7 @@ use Rattle.std.proofs.lemmas.List.Folds.{list_any-append}
 use Rattle.std.proofs.lemmas.Grind.{flat_map-append}
 use Rattle.qm_parse.specs.Checks.{bound_use, bound_uses, earliest, has_name, row_uses, term_use, term_uses, uses}
 use Rattle.qm_parse.specs.Marks.{IsMarksOf, is_marked}
-use Rattle.qm_parse.specs.Surveys.{Adds, IsSurveyOf, earlier_of, earliest_unmarked}
+use Rattle.qm_parse.specs.SurveySteps.{Adds, IsSurveyOf, earlier_of, earliest_unmarked}
 use Rattle.qm_parse.specs.declared.ast.Ast.{Ast}
 use Rattle.qm_parse.specs.declared.ast.AstBound.{AstBound}
 use Rattle.qm_parse.specs.declared.ast.AstTerm.{AstTerm}

@@ -1,6 +1,7 @@
 -- Small lists of symbols, judged by the definitions.
 use Rattle.std.proofs.Common.{◌≡◌, ◌≢◌, ℕ, zero, suc, pos, Bool, true, false, List, [], ◌∷◌, ◌++◌, inl, inr, Some, None, AllPairs, Err, refl, sym, ap, ◌∙◌, arith}
 use Rattle.qm_math.specs.Fraction.{Fraction}
+use Rattle.qm_math.proofs.Lists.{cons-nonempty}
 use Rattle.qm_lex.specs.declared.place.Place.{Place}
 use Rattle.qm_lex.specs.declared.token.Keyword.{Keyword}
 use Rattle.qm_lex.specs.declared.token.Keyword.TheVariants as keyword
@@ -20,12 +21,12 @@ use Rattle.qm_parse.specs.declared.word.Word.{Word}
 use Rattle.qm_parse.specs.declared.word.Word.TheVariants.{Name, Number, Sign, Related, Colon, Keyword as Reserved, Infinite}
 use Rattle.qm_parse.specs.Drafts.{noted, one, signed_by, turned}
 use Rattle.qm_parse.specs.Faults.{CanGoOn}
-use Rattle.qm_parse.specs.Parts.{Bound, Row}
+use Rattle.qm_parse.specs.Parts.{BoundOf, RowOf}
 use Rattle.qm_parse.specs.Reading.{empty_ast, empty_draft, leaves, read, start}
 use Rattle.qm_parse.specs.Stages.{begun, begun_by, expected, fits_line, followed, has, may_end, may_share_line, missing, moved, next_state, objective_begun, row_begun, section_of, stage_of, step, wanted, with_section}
 use Rattle.qm_parse.specs.Texts.{AreSections, Bounded, IsText, KnowColons, Listed, Written, section_written}
 use Rattle.qm_parse.proofs.ReadTexts.{text_reads}
-use Rattle.qm_parse.proofs.Beginnings.{not_both}
+use Rattle.qm_parse.proofs.Beginnings.{answered_is_not_failed}
 
 -- a token at a place; the first of its line or not
 abbrev first : Word → ℕ → Symbol
@@ -81,10 +82,7 @@ labelled = record {
 no_nil : (term : AstTerm) (terms : List AstTerm) → term ∷ terms ≢ []
 no_nil term terms e = absurd cc
 
-no_signs : (minus : Bool) (signs : List Bool) → minus ∷ signs ≢ []
-no_signs minus signs e = absurd cc
-
-a_labelled_row : Row labelled labelled_row closing
+a_labelled_row : RowOf labelled labelled_row closing
 unfolding signed_by
 a_labelled_row = (
   no_nil _ _,
@@ -97,7 +95,7 @@ a_labelled_row = (
       (
         _,
         ([], inl refl, (_, refl, (two, 1, refl, refl, (_, inl (refl, refl), ((false, refl), refl, refl))))),
-        (_, (true ∷ [], inr (no_signs true []), (_, (_, (refl, refl), refl), (one, 2, refl, refl, (_, inr (refl, refl), ((false, refl), refl, refl))))), refl),
+        (_, (true ∷ [], inr (cons-nonempty true []), (_, (_, (refl, refl), refl), (one, 2, refl, refl, (_, inr (refl, refl), ((false, refl), refl, refl))))), refl),
       ),
       (_, (refl, refl), (_, (true ∷ [], (_, (_, (refl, refl), refl), (two, refl, (refl, refl)))), (inl refl, refl))),
     ),
@@ -128,7 +126,7 @@ both_relations = record { name = 0; relation = Greater; value = Some two; at = a
 bounds_and_order : Written → section_written (Bounded (both_relations ∷ [])) ≢ section.Names Order
 bounds_and_order written e = absurd cc
 
-a_bound_over_two_lines : Bound both_relations (first (Number (Some two)) 4 ∷ later (Related Less) 4 3 ∷ later (Name 0 false) 4 6 ∷ first (Related Less) 5 ∷ later Infinite 5 4 ∷ closing) closing
+a_bound_over_two_lines : BoundOf both_relations (first (Number (Some two)) 4 ∷ later (Related Less) 4 3 ∷ later (Name 0 false) 4 6 ∷ first (Related Less) 5 ∷ later Infinite 5 4 ∷ closing) closing
 unfolding signed_by turned
 a_bound_over_two_lines = (
   _,
@@ -170,7 +168,7 @@ bound_text = record {
 
 -- symbols that are not read are no text
 not_read : (symbols : List Symbol) (fault : Unread) → KnowColons symbols → read start (empty_draft []) symbols (record { line = 1; column = 1 }) ≡ Err fault → (ast : Ast) → ¬ IsText [] symbols ast
-not_read symbols fault colons e ast text = not_both ast fault (sym (text_reads [] symbols ast (record { line = 1; column = 1 }) colons text) ∙ e)
+not_read symbols fault colons e ast text = answered_is_not_failed ast fault (sym (text_reads [] symbols ast (record { line = 1; column = 1 }) colons text) ∙ e)
 
 keyword_knows : (reserved : Keyword) (n : ℕ) (labels : Bool) → Reserved reserved ≡ Name n labels → ⊥
 keyword_knows reserved n labels e = absurd cc

@@ -15,10 +15,10 @@ use Rattle.qm_parse.specs.declared.word.Symbol.{Symbol}
 use Rattle.qm_parse.specs.declared.word.Word.{Word}
 use Rattle.qm_parse.specs.declared.word.Word.TheVariants.{Name, Number, Sign, Related, Keyword as Reserved, Infinite}
 use Rattle.qm_parse.specs.Drafts.{noted, bound_noted, with_name}
-use Rattle.qm_parse.specs.Parts.{Bound, BoundEnds, Each, Either, OneBound, Value, ValueFirst}
+use Rattle.qm_parse.specs.Parts.{BoundOf, BoundEnds, Each, Either, OneBound, Value, ValueFirst}
 use Rattle.qm_parse.specs.Reading.{finished, read}
 use Rattle.qm_parse.specs.Stages.{bound_begun, fits_line, followed, may_end, may_share_line, moved, step}
-use Rattle.qm_parse.proofs.WrittenSteps.{state, symbol, Goes, goes, goes_to, whole, any_line, Past, IsClean, Follows}
+use Rattle.qm_parse.proofs.WrittenSteps.{state, symbol, Goes, goes, goes_to, whole, any_line, Past, IsClean, SectionFollows}
 use Rattle.qm_parse.proofs.WrittenValues.{with_bounds, AddsBounds, value_plain, Compared, ComparedFound, compared_read, FreeTail, name_read, FrontFound, front_by_word, front_read, AddsTurned, value_read}
 
 -- what may stand behind a bound on its line
@@ -37,7 +37,7 @@ bound_end seen draft (first ∷ symbols) end ast e =
 
 -- a whole bound
 abbrev BoundFound : Draft → List Symbol → Draft → List Symbol → Type 0
-BoundFound before symbols after rest = (bounds : List AstBound) × Bound bounds symbols rest × AddsBounds before bounds after
+BoundFound before symbols after rest = (bounds : List AstBound) × BoundOf bounds symbols rest × AddsBounds before bounds after
 
 -- a name, and what is behind it
 named_bound : (n : ℕ) (labels : Bool) (place : Place) (line : Bool) (bound : AstBound) (symbols rest : List Symbol)
@@ -194,7 +194,7 @@ as_signed word place line seen before symbols end ast same_step g =
     record { next = g.next; fits = any_line line; moves = sym same_step ∙ g.moves; stays = g.stays; reads = g.reads }
 
 abbrev BoundOrEnd : Seen → Draft → List Symbol → Place → Ast → Type 0
-BoundOrEnd seen before symbols end ast = Past BoundEnd seen (BoundFound before symbols) symbols end ast ⊎ Follows seen before symbols end ast
+BoundOrEnd seen before symbols end ast = Past BoundEnd seen (BoundFound before symbols) symbols end ast ⊎ SectionFollows seen before symbols end ast
 
 begin_by_word : (word : Word) (place : Place) (line : Bool) (seen : Seen) (before : Draft) (symbols : List Symbol) (end : Place) (ast : Ast)
     → before.negative ≡ false → Goes BoundsBegin seen before (symbol word place line) symbols end ast
@@ -239,12 +239,12 @@ pub record BoundsPast (seen : Seen) (before : Draft) (symbols : List Symbol) (en
   pub draft : Draft
   pub rest : List Symbol
   pub within : length rest ≤ length symbols
-  pub written : Each Bound bounds symbols rest
+  pub written : Each BoundOf bounds symbols rest
   pub tree : draft.ast ≡ with_bounds (joined bounds) before.ast
   pub clean : IsClean draft
-  pub follows : Follows seen draft rest end ast
+  pub follows : SectionFollows seen draft rest end ast
 
-no_bounds : (seen : Seen) (before : Draft) (symbols : List Symbol) (end : Place) (ast : Ast) → IsClean before → Follows seen before symbols end ast → BoundsPast seen before symbols end ast
+no_bounds : (seen : Seen) (before : Draft) (symbols : List Symbol) (end : Place) (ast : Ast) → IsClean before → SectionFollows seen before symbols end ast → BoundsPast seen before symbols end ast
 no_bounds seen before symbols end ast clean f = record {
   bounds = [];
   draft = before;

@@ -17,7 +17,7 @@ use Rattle.qm_parse.specs.Drafts.{listed, list_noted, noted, with_listed}
 use Rattle.qm_parse.specs.Parts.{Each, ListedName}
 use Rattle.qm_parse.specs.Reading.{finished, read}
 use Rattle.qm_parse.specs.Stages.{followed, may_end, moved, step}
-use Rattle.qm_parse.proofs.WrittenSteps.{state, symbol, Goes, goes, goes_to, IsClean, Follows}
+use Rattle.qm_parse.proofs.WrittenSteps.{state, symbol, Goes, goes, goes_to, IsClean, SectionFollows}
 
 -- the tree with further names in a list
 abbrev pub with_listed_names : NameList → List Named → Ast → Ast
@@ -36,7 +36,7 @@ pub record NamesPast (seen : Seen) (list : NameList) (before : Draft) (symbols :
   pub written : Each ListedName names symbols rest
   pub tree : draft.ast ≡ with_listed_names list names before.ast
   pub clean : IsClean draft
-  pub follows : Follows seen draft rest end ast
+  pub follows : SectionFollows seen draft rest end ast
 
 no_name : (list : NameList) (ast : Ast) → ast ≡ with_listed_names list [] ast
 no_name Generals ast = λ i. record ast { generals = sym (append-nil ast.generals) i }

@@ -14,7 +14,7 @@ use Rattle.qm_parse.specs.declared.word.Symbol.{Symbol}
 use Rattle.qm_parse.specs.declared.word.Word.{Word}
 use Rattle.qm_parse.specs.declared.word.Word.TheVariants.{Name, Number, Sign, Keyword as Reserved}
 use Rattle.qm_parse.specs.Drafts.{noted, one, constant_noted, first_noted, objective_noted, signed, signed_by, with_coef, with_constant, with_multiple, with_objective, with_single}
-use Rattle.qm_parse.specs.Parts.{◌then◌, Part, Each, Either, Multiple, Constant, Objective, ObjectiveTerm, RowsHeading, Terms}
+use Rattle.qm_parse.specs.Parts.{◌then◌, Part, Each, Either, Multiple, Constant, ObjectiveOf, ObjectiveTerm, RowsHeading, Terms}
 use Rattle.qm_parse.specs.Reading.{finished, leaves, read}
 use Rattle.qm_parse.specs.Stages.{fits_line, may_end, may_share_line, moved, objective_begun, step}
 use Rattle.qm_parse.proofs.WrittenHeadings.{PartFound, label_of, colon_read, subject_to, st}
@@ -304,7 +304,7 @@ terms_read seen before (first ∷ symbols) end ast plain e =
 
 -- the objective and the heading of the rows
 abbrev pub ObjectiveFound : Draft → List Symbol → Draft → List Symbol → Type 0
-ObjectiveFound before symbols after rest = (terms : List AstTerm) × (Objective terms then RowsHeading) symbols rest × AddsObjective before terms after
+ObjectiveFound before symbols after rest = (terms : List AstTerm) × (ObjectiveOf terms then RowsHeading) symbols rest × AddsObjective before terms after
 
 without_label : (seen : Seen) (before : Draft) (symbols : List Symbol) (end : Place) (ast : Ast)
     → Past RowsBegin seen (TermsFound before symbols) symbols end ast → Past RowsBegin seen (ObjectiveFound before symbols) symbols end ast

@@ -15,10 +15,10 @@ use Rattle.qm_parse.specs.declared.word.Symbol.{Symbol}
 use Rattle.qm_parse.specs.declared.word.Word.{Word}
 use Rattle.qm_parse.specs.declared.word.Word.TheVariants.{Name, Number, Sign, Related, Keyword as Reserved}
 use Rattle.qm_parse.specs.Drafts.{noted, right_noted, row_begin_noted, row_of, signed, signed_by, with_row, with_row_at}
-use Rattle.qm_parse.specs.Parts.{◌then◌, Part, Each, Says, SignedNumber, Row, RowEnds, RowTerm, Terms, Multiple}
+use Rattle.qm_parse.specs.Parts.{◌then◌, Part, Each, Says, SignedNumber, RowOf, RowEnds, RowTerm, Terms, Multiple}
 use Rattle.qm_parse.specs.Reading.{finished, leaves, read}
 use Rattle.qm_parse.specs.Stages.{fits_line, followed, may_end, may_share_line, moved, row_begun, step}
-use Rattle.qm_parse.proofs.WrittenSteps.{state, symbol, Goes, goes, goes_to, Past, past_before, past_one, SignedFrom, no_sign, one_sign, first_begins, any_line, number_body, IsClean, Follows}
+use Rattle.qm_parse.proofs.WrittenSteps.{state, symbol, Goes, goes, goes_to, Past, past_before, past_one, SignedFrom, no_sign, one_sign, first_begins, any_line, number_body, IsClean, SectionFollows}
 use Rattle.qm_parse.proofs.WrittenHeadings.{label_of, row_colon_read}
 use Rattle.qm_parse.proofs.WrittenTerms.{RowTermFound, signed_by_word, signed_read, more_read}
 
@@ -143,7 +143,7 @@ body_read seen started symbols end ast clean p =
 
 -- a whole row
 abbrev pub RowFound : Bool → Draft → List Symbol → Draft → List Symbol → Type 0
-RowFound uncertain before symbols after rest = (row : AstRow) × Row row symbols rest × AddsRow uncertain before row after
+RowFound uncertain before symbols after rest = (row : AstRow) × RowOf row symbols rest × AddsRow uncertain before row after
 
 clean_at : (place : Place) (draft : Draft) → IsClean draft → IsClean (with_row_at place draft)
 unfolding with_row_at
@@ -199,7 +199,7 @@ row_with n place line seen before symbols end ast clean e =
     }
 
 abbrev RowOrEnd : Seen → Draft → List Symbol → Place → Ast → Type 0
-RowOrEnd seen before symbols end ast = Past RowEnd seen (RowFound seen.uncertainty before symbols) symbols end ast ⊎ Follows seen before symbols end ast
+RowOrEnd seen before symbols end ast = Past RowEnd seen (RowFound seen.uncertainty before symbols) symbols end ast ⊎ SectionFollows seen before symbols end ast
 
 -- a row may begin like a term
 as_signed : (word : Word) (place : Place) (line : Bool) (seen : Seen) (before : Draft) (symbols : List Symbol) (end : Place) (ast : Ast)
@@ -256,10 +256,10 @@ pub record RowsPast (seen : Seen) (before : Draft) (symbols : List Symbol) (end 
   pub draft : Draft
   pub rest : List Symbol
   pub within : length rest ≤ length symbols
-  pub written : Each Row rows symbols rest
+  pub written : Each RowOf rows symbols rest
   pub tree : draft.ast ≡ with_rows seen.uncertainty rows before.ast
   pub clean : IsClean draft
-  pub follows : Follows seen draft rest end ast
+  pub follows : SectionFollows seen draft rest end ast
 
 with_rows-none : (uncertain : Bool) (ast : Ast) → ast ≡ with_rows uncertain [] ast
 with_rows-none true ast = λ i. record ast { uncertain = sym (append-nil ast.uncertain) i }
@@ -269,7 +269,7 @@ with_rows-more : (uncertain : Bool) (row : AstRow) (rows : List AstRow) (ast : A
 with_rows-more true row rows ast = λ i. record ast { uncertain = append_assoc ast.uncertain (row ∷ []) rows i }
 with_rows-more false row rows ast = λ i. record ast { rows = append_assoc ast.rows (row ∷ []) rows i }
 
-no_rows : (seen : Seen) (before : Draft) (symbols : List Symbol) (end : Place) (ast : Ast) → IsClean before → Follows seen before symbols end ast → RowsPast seen before symbols end ast
+no_rows : (seen : Seen) (before : Draft) (symbols : List Symbol) (end : Place) (ast : Ast) → IsClean before → SectionFollows seen before symbols end ast → RowsPast seen before symbols end ast
 no_rows seen before symbols end ast clean f =
     record { rows = []; draft = before; rest = symbols; within = omega arith; written = refl; tree = with_rows-none seen.uncertainty before.ast; clean = clean; follows = f }
 

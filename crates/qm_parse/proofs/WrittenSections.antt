@@ -24,7 +24,7 @@ use Rattle.qm_parse.specs.Texts.{SectionOf, Written, section_written, with_names
 use Rattle.qm_parse.specs.Texts.Written.{Uncertain, Bounded, Listed}
 use Rattle.qm_parse.specs.Reading.{finished, read}
 use Rattle.qm_parse.specs.Stages.{begun, begun_by, followed, has, may_end, moved, section_of, stage_of, step, with_section}
-use Rattle.qm_parse.proofs.WrittenSteps.{state, symbol, Goes, goes, IsClean, Follows}
+use Rattle.qm_parse.proofs.WrittenSteps.{state, symbol, Goes, goes, IsClean, SectionFollows}
 use Rattle.qm_parse.proofs.WrittenHeadings.{heading_read}
 use Rattle.qm_parse.proofs.WrittenRows.{rows_read}
 use Rattle.qm_parse.proofs.WrittenBounds.{bounds_read, joined}
@@ -99,7 +99,7 @@ pub record SectionPast (seen : Seen) (before : Draft) (symbols : List Symbol) (e
   pub tree : draft.ast ≡ with_written before.ast part
   pub fresh : has seen (section_written part) ≡ false
   pub clean : IsClean draft
-  pub follows : Follows (with_section seen (section_written part)) draft rest end ast
+  pub follows : SectionFollows (with_section seen (section_written part)) draft rest end ast
 
 -- or the text ends
 pub record EndPast (seen : Seen) (before : Draft) (symbols : List Symbol) (ast : Ast) : Type 0 where
@@ -254,7 +254,7 @@ by_word (Reserved k) place line seen before symbols next end ast clean none e r 
 by_word word place line seen before symbols next end ast clean none e r = absurd cc
 
 section_or_end : (seen : Seen) (before : Draft) (symbols : List Symbol) (end : Place) (ast : Ast)
-    → IsClean before → AreEmpty seen before.ast → Follows seen before symbols end ast → SectionOrEnd seen before symbols end ast
+    → IsClean before → AreEmpty seen before.ast → SectionFollows seen before symbols end ast → SectionOrEnd seen before symbols end ast
 section_or_end seen before symbols end ast clean none f =
     subst (λ (s : List Symbol). SectionOrEnd seen before s end ast) (sym f.parts)
     (by_word f.first.word f.first.place f.first.begins_line seen before f.rest f.next end ast clean none f.moves f.reads)
@@ -318,7 +318,7 @@ one_section seen before symbols end ast p q =
     }
 
 sections_behind : (seen : Seen) (before : Draft) (symbols : List Symbol) (end : Place) (ast : Ast)
-    → ((later : Seen) (draft : Draft) (rest : List Symbol) → length rest < length symbols → IsClean draft → AreEmpty later draft.ast → Follows later draft rest end ast
+    → ((later : Seen) (draft : Draft) (rest : List Symbol) → length rest < length symbols → IsClean draft → AreEmpty later draft.ast → SectionFollows later draft rest end ast
     → SectionsPast later draft rest ast)
     → AreEmpty seen before.ast → SectionOrEnd seen before symbols end ast → SectionsPast seen before symbols ast
 sections_behind seen before symbols end ast again none (inl p) =
@@ -327,7 +327,7 @@ sections_behind seen before symbols end ast again none (inl p) =
 sections_behind seen before symbols end ast again none (inr e) = no_section seen before symbols ast e
 
 sections_within : (n : ℕ) (seen : Seen) (before : Draft) (symbols : List Symbol) (end : Place) (ast : Ast)
-    → length symbols ≤ n → IsClean before → AreEmpty seen before.ast → Follows seen before symbols end ast → SectionsPast seen before symbols ast
+    → length symbols ≤ n → IsClean before → AreEmpty seen before.ast → SectionFollows seen before symbols end ast → SectionsPast seen before symbols ast
 sections_within zero seen before symbols end ast within clean none f =
     sections_behind seen before symbols end ast (λ later draft rest short c a g. absurd (omega arith)) none (section_or_end seen before symbols end ast clean none f)
 sections_within (suc n) seen before symbols end ast within clean none f =
@@ -336,5 +336,5 @@ sections_within (suc n) seen before symbols end ast within clean none f =
     none (section_or_end seen before symbols end ast clean none f)
 
 pub sections_read : (seen : Seen) (before : Draft) (symbols : List Symbol) (end : Place) (ast : Ast)
-    → IsClean before → AreEmpty seen before.ast → Follows seen before symbols end ast → SectionsPast seen before symbols ast
+    → IsClean before → AreEmpty seen before.ast → SectionFollows seen before symbols end ast → SectionsPast seen before symbols ast
 sections_read seen before symbols end ast clean none f = sections_within (length symbols) seen before symbols end ast (omega arith) clean none f

@@ -175,7 +175,7 @@ abbrev pub number_body : Fraction → Bool → Part
 number_body value negative symbols rest = (q : Fraction) × (value ≡ signed_by negative q) × Says (Number (Some q)) symbols rest
 
 -- a section or END comes next
-pub record Follows (seen : Seen) (draft : Draft) (symbols : List Symbol) (end : Place) (ast : Ast) : Type 0 where
+pub record SectionFollows (seen : Seen) (draft : Draft) (symbols : List Symbol) (end : Place) (ast : Ast) : Type 0 where
   pub first : Symbol
   pub rest : List Symbol
   pub parts : symbols ≡ first ∷ rest

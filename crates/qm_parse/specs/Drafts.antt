@@ -1,4 +1,4 @@
--- What a token adds to what was read. No public clause cites this.
+-- What a token adds to what was read. Public clauses cite this through `read` alone.
 use Rattle.std.specs.Prelude.{ℕ, pos, Bool, true, false, not, [], ◌∷◌, ◌++◌, Option, Some, None, if◌then◌else◌}
 use Rattle.qm_math.specs.Fraction.{Fraction}
 use Rattle.qm_frac.specs.Arithmetic.{negated}

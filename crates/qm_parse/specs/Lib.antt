@@ -9,6 +9,6 @@ pub mod Checks
 pub mod Symbols
 pub mod Parsing
 pub mod Marks
-pub mod Surveys
+pub mod SurveySteps
 pub mod NameFaults
 pub mod Known

@@ -119,8 +119,8 @@ abbrev pub SenseWord : Sense → Part
 SenseWord Max = OneOf keyword.Maximize keyword.Max
 SenseWord Min = OneOf keyword.Minimize keyword.Min
 
-abbrev pub Objective : List AstTerm → Part
-Objective terms = OptionalLabel then Terms ObjectiveTerm terms
+abbrev pub ObjectiveOf : List AstTerm → Part
+ObjectiveOf terms = OptionalLabel then Terms ObjectiveTerm terms
 
 -- SUBJECT TO, or ST
 abbrev pub RowsHeading : Part
@@ -155,8 +155,8 @@ BoundEnds [] rest = [] ≡ rest
 BoundEnds (symbol ∷ symbols) rest = (IsTrue symbol.begins_line ⊎ IsKeyword symbol.word) × (symbol ∷ symbols ≡ rest)
 
 -- one term at least, the relation and the right side
-abbrev pub Row : AstRow → Part
-Row row symbols rest =
+abbrev pub RowOf : AstRow → Part
+RowOf row symbols rest =
     (row.terms ≢ []) × StandsAt row.at symbols
     × (OptionalLabel then Terms RowTerm row.terms then Says (Related row.relation) then SignedNumber row.right then RowEnds) symbols rest
 
@@ -193,8 +193,8 @@ BoundBody bounds symbols rest =
     ((bound : AstBound) × (bounds ≡ bound ∷ []) × OneBound bound symbols rest)
     ⊎ ((bound : AstBound) × (further : AstBound) × (bounds ≡ bound ∷ further ∷ []) × (ValueFirst bound then Further bound further) symbols rest)
 
-abbrev pub Bound : List AstBound → Part
-Bound bounds = BoundBody bounds then BoundEnds
+abbrev pub BoundOf : List AstBound → Part
+BoundOf bounds = BoundBody bounds then BoundEnds
 
 abbrev pub ListHeading : NameList → Part
 ListHeading Generals = OneOf keyword.Generals keyword.General

@@ -1,4 +1,4 @@
--- Reading a text token by token. No public clause cites this.
+-- Reading a text token by token. Of the public clauses `a_text_is_read` cites this, and `IsText` its empty tree.
 use Rattle.std.specs.Prelude.{ℕ, Bool, true, false, List, [], ◌∷◌, Some, None, Result, Ok, Err, if◌then◌else◌}
 use Rattle.qm_lex.specs.declared.place.Place.{Place}
 use Rattle.qm_model.specs.declared.game.Sense.TheVariants.{Max}

@@ -14,7 +14,7 @@ use Rattle.qm_parse.specs.declared.stage.Section.{Section}
 use Rattle.qm_parse.specs.declared.stage.Section.TheVariants as section
 use Rattle.qm_parse.specs.declared.word.Symbol.{Symbol}
 use Rattle.qm_parse.specs.declared.word.Word.TheVariants.{Name, Colon, Keyword as Reserved}
-use Rattle.qm_parse.specs.Parts.{◌then◌, Bound, Each, ListHeading, ListedName, Objective, Part, Row, RowsHeading, Says, SenseWord}
+use Rattle.qm_parse.specs.Parts.{◌then◌, BoundOf, Each, ListHeading, ListedName, ObjectiveOf, Part, RowOf, RowsHeading, Says, SenseWord}
 use Rattle.qm_parse.specs.Reading.{empty_ast}
 
 -- what a section holds
@@ -31,8 +31,8 @@ section_written (Listed list names) = section.Names list
 
 -- its heading, and what it holds
 abbrev pub SectionOf : Written → Part
-SectionOf (Uncertain rows) = Says (Reserved keyword.Uncertainty) then RowsHeading then Each Row rows
-SectionOf (Bounded bounds) = Says (Reserved keyword.Bounds) then Each Bound bounds
+SectionOf (Uncertain rows) = Says (Reserved keyword.Uncertainty) then RowsHeading then Each RowOf rows
+SectionOf (Bounded bounds) = Says (Reserved keyword.Bounds) then Each BoundOf bounds
 SectionOf (Listed list names) = ListHeading list then Each ListedName names
 
 -- the sections, each once at most, and ORDER among them
@@ -50,7 +50,7 @@ pub record WrittenText : Type 0 where
 -- the parts of a text, one behind the other
 abbrev pub TextOf : WrittenText → Part
 TextOf text =
-    SenseWord text.sense then Objective text.objective then RowsHeading then Each Row text.rows
+    SenseWord text.sense then ObjectiveOf text.objective then RowsHeading then Each RowOf text.rows
     then Each SectionOf text.sections then Says (Reserved keyword.End)
 
 -- the tree with what a list of names holds

@@ -1,6 +1,6 @@
 ghost use Rattle.std.specs.Prelude.{◌≡◌, IfOk};
 ghost use Rattle.qm_parse.specs.Checks.{both_players, infinite, name_fault, offended, twice, unknown, unordered, without_upper};
-ghost use Rattle.qm_parse.specs.Surveys.{IsSurveyOf};
+ghost use Rattle.qm_parse.specs.SurveySteps.{IsSurveyOf};
 
 use crate::ast::{Ast, Named};
 use crate::bound_checks;

@@ -14,7 +14,7 @@ use std::alloc::Global;
 use std::mem;
 
 /// What was read so far: whole terms, rows, bounds and names, and the parts of the one that has begun.
-#[derive(Debug, Drop)]
+#[derive(Drop)]
 pub(crate) struct Draft {
     pub ast: Ast,
     /// The terms of the row that has begun.

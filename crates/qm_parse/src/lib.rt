@@ -1,7 +1,12 @@
 //! The syntax tree of a text, or its first fault.
 //!
-//! Tokens become symbols, where names are numbers of a list; a small automaton says which symbol may follow a beginning,
-//! and a draft takes what each adds; names are judged last.
+//! `parse` needs a text and its tokens, as `qm_lex` cuts them, and gives the one answer that they have (`Parsing`): the tree
+//! of a text whose names are used right (`Symbols`, `Parts`, `Texts`, `Checks`); or the first fault of its grammar
+//! (`Faults`); or the first name that is used wrong (`NameFaults`). `Ast` says what is written, in the order of the text.
+//!
+//! Tokens become symbols, where names are numbers of a list (`NameTables`, `Known`); a small automaton says which symbol
+//! may follow a beginning (`Stages`), and a draft takes what each adds (`Reading`, `Drafts`); names are judged last, by
+//! marks (`Marks`). The laws say that this reads all texts and nothing else, and that no text has two trees.
 #![tactic(auto)]
 
 mod ast;
@@ -39,6 +44,3 @@ pub use laws::{
 pub use marks::Marks;
 pub use names::Names;
 pub use parser::parse;
-
-#[cfg(test)]
-mod tests;

@@ -1,7 +1,7 @@
 use qm_lex::Place;
 
 /// How a name is used wrong, in the order in which these are judged.
-#[derive(Clone, Copy, Debug, PartialEq, Eq)]
+#[derive(Clone, Copy)]
 pub(crate) enum Offence {
     BothPlayers,
     Twice,
@@ -12,7 +12,7 @@ pub(crate) enum Offence {
 }
 
 /// A name that is used wrong, by its number, and where.
-#[derive(Clone, Copy, Debug, PartialEq, Eq)]
+#[derive(Clone, Copy)]
 pub(crate) struct NameFault {
     pub offence: Offence,
     pub name: u32,

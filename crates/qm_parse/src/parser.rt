@@ -8,7 +8,7 @@ use crate::judgement::judged;
 use crate::reader::read;
 use crate::symbols::symbols;
 use crate::unread::Unread;
-use qm_lex::{Token, place_at, tokens_stand_in_order};
+use qm_lex::{Token, tokens_stand_in_order};
 use std::alloc::Global;
 
 /// The syntax tree of a text with these tokens, or its first fault: a fault of the grammar, and else a name that is used wrong.
@@ -18,9 +18,13 @@ pub fn parse(alloc: Global, text: &[u8], tokens: &[Token]) -> Result<Ast, ParseF
     ensures { IsParsed text.now tokens.now result }
 {
     tokens_stand_in_order();
-    let (symbols, names) = symbols(alloc, text, tokens).map_err(|_| ParseFault::Memory)?;
-    let end = place_at(text, text.len());
-    match read(alloc, names, symbols.as_slice(), end) {
+    let spelled = symbols(alloc, text, tokens).map_err(|_| ParseFault::Memory)?;
+    match read(
+        alloc,
+        spelled.names,
+        spelled.symbols.as_slice(),
+        spelled.end,
+    ) {
         Ok(ast) => judged(alloc, ast),
         Err(wrong) => Err(fault_of(wrong)),
     }

@@ -1,5 +1,5 @@
 /// A list of names.
-#[derive(Clone, Copy, Debug, PartialEq, Eq)]
+#[derive(Clone, Copy)]
 pub enum NameList {
     Generals,
     Binaries,
@@ -9,7 +9,7 @@ pub enum NameList {
 }
 
 /// What a section holds behind the rows.
-#[derive(Clone, Copy, Debug, PartialEq, Eq)]
+#[derive(Clone, Copy)]
 pub enum Section {
     Uncertainty,
     Bounds,
@@ -17,7 +17,7 @@ pub enum Section {
 }
 
 /// Which sections have begun so far.
-#[derive(Clone, Copy, Debug, PartialEq, Eq)]
+#[derive(Clone, Copy)]
 pub struct Seen {
     pub uncertainty: bool,
     pub bounds: bool,
@@ -29,7 +29,7 @@ pub struct Seen {
 }
 
 /// Where in its part the last token of a beginning stands.
-#[derive(Clone, Copy, Debug, PartialEq, Eq)]
+#[derive(Clone, Copy)]
 pub enum Stage {
     /// Nothing was read.
     Start,
@@ -79,7 +79,7 @@ pub enum Stage {
 }
 
 /// The state of a beginning of a text.
-#[derive(Clone, Copy, Debug, PartialEq, Eq)]
+#[derive(Clone, Copy)]
 pub struct State {
     pub stage: Stage,
     pub seen: Seen,

@@ -1,7 +1,7 @@
 ghost use Rattle.std.specs.Prelude.{◌≡◌, [], ◌∷◌, IfOk, OnOk};
 ghost use Rattle.qm_parse.specs.Checks.{bound_uses, is_before, row_uses, term_use, term_uses, uses};
 ghost use Rattle.qm_parse.specs.Marks.{IsMarksOf};
-ghost use Rattle.qm_parse.specs.Surveys.{Adds, IsSurveyOf, earlier_of};
+ghost use Rattle.qm_parse.specs.SurveySteps.{Adds, IsSurveyOf, earlier_of};
 
 use crate::ast::{Ast, AstBound, AstRow, AstTerm, Named};
 use crate::marks::Marks;
@@ -10,7 +10,7 @@ use qm_lex::Place;
 use std::alloc::Global;
 
 /// What is known of the variables of a text by the places that were walked over so far.
-#[derive(Debug, Drop)]
+#[derive(Drop)]
 pub(crate) struct Survey {
     /// The numbers of their names.
     pub used: Marks,
@@ -113,7 +113,7 @@ impl Survey {
 }
 
 /// The earlier one of a place, where there is one, and another; the first where none is.
-#[tactic(auto, unfolding(crate::specs::Surveys::earlier_of, crate::specs::Checks::earlier))]
+#[tactic(auto, unfolding(crate::specs::SurveySteps::earlier_of, crate::specs::Checks::earlier))]
 fn earlier(first: Option<Named>, named: Named) -> Named
     ensures { Some result ≡ earlier_of first (Some named) }
 {

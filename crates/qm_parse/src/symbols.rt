@@ -12,17 +12,24 @@ use qm_io::{List, Memory};
 use qm_lex::{Kind, Place, Token, place_behind};
 use std::alloc::Global;
 
-/// The symbols of the tokens, and their names in the order of the text.
-pub(crate) fn symbols(
-    alloc: Global,
-    text: &[u8],
-    tokens: &[Token],
-) -> Result<(List<Symbol>, Names), Memory>
+/// What the grammar sees of a text.
+#[derive(Drop)]
+pub(crate) struct Spelled {
+    pub symbols: List<Symbol>,
+    /// The names, in the order of the text.
+    pub names: Names,
+    /// The place of the end.
+    pub end: Place,
+}
+
+/// The symbols of the tokens, their names, and the end of the text.
+pub(crate) fn symbols(alloc: Global, text: &[u8], tokens: &[Token]) -> Result<Spelled, Memory>
     requires short { length text.now < 2 ^ 31 }
     requires ordered { AreInOrder 0 tokens.now (length text.now) }
     requires numbers { AreNumbers text.now tokens.now }
-    ensures names { IfOk result (λ x. x.1 ≡ names_of text.now tokens.now) }
-    ensures symbols { IfOk result (λ x. AreSymbols text.now (names_of text.now tokens.now) 0 tokens.now x.0) }
+    ensures names { IfOk result (λ x. x.names ≡ names_of text.now tokens.now) }
+    ensures symbols { IfOk result (λ x. AreSymbols text.now (names_of text.now tokens.now) 0 tokens.now x.symbols) }
+    ensures end { IfOk result (λ x. x.end ≡ place_of text.now (length text.now)) }
 {
     let mut symbols = List::new(alloc);
     let mut names = Names::new(alloc);
@@ -47,7 +54,12 @@ pub(crate) fn symbols(
             line: place.line,
         };
     }
-    Ok((symbols, names))
+    let end = place_behind(behind.place, &text[behind.at..]);
+    Ok(Spelled {
+        symbols,
+        names,
+        end,
+    })
 }
 
 /// The end of a token, its place, and the line on which the token begins.

@@ -3,7 +3,7 @@ use qm_io::Memory;
 use qm_lex::Place;
 
 /// Why symbols are not read.
-#[derive(Clone, Copy, Debug, PartialEq, Eq)]
+#[derive(Clone, Copy)]
 pub(crate) enum Unread {
     /// The symbol at this place, or the end of the text, can't go on.
     Expected(Place, What),

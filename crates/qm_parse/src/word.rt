@@ -3,7 +3,7 @@ use qm_frac::Frac;
 use qm_lex::{Keyword, Place};
 
 /// What a token says.
-#[derive(Clone, Copy, Debug, PartialEq, Eq)]
+#[derive(Clone, Copy)]
 pub enum Word {
     /// A name by its number, and whether a colon follows it.
     Name(u32, bool),
@@ -20,7 +20,7 @@ pub enum Word {
 }
 
 /// A token as the grammar sees it.
-#[derive(Clone, Copy, Debug, PartialEq, Eq)]
+#[derive(Clone, Copy)]
 pub struct Symbol {
     pub word: Word,
     pub place: Place,

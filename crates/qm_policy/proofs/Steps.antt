@@ -1,5 +1,5 @@
 -- What the answer is from a part on, and small facts of the tests.
-use Rattle.std.proofs.Common.{◌≡◌, ℕ, zero, suc, ◌+◌, ◌*◌, ◌<◌, ◌≤◌, true, false, List, [], ◌∷◌, length, drop, get_or, All, refl, sym, ap, ◌∙◌, arith, ℤ, pos, unsigned_abs, Ok, Err}
+use Rattle.std.proofs.Common.{◌≡◌, ℕ, ◌+◌, ◌*◌, ◌<◌, ◌≤◌, true, List, [], ◌∷◌, length, drop, get_or, All, refl, sym, ap, ◌∙◌, arith, ℤ, pos, unsigned_abs, Ok, Err}
 use Rattle.std.specs.Prelude.{◌&&◌, nat_lt, ◌^◌}
 use Rattle.std.proofs.Math.Nat.{div-one, mul-le-mul_left}
 use Rattle.std.proofs.lemmas.List.{drop_more}
@@ -8,35 +8,30 @@ use Rattle.std.proofs.lemmas.List.Sums.{sum_by-cons}
 use Rattle.qm_math.specs.Fraction.{Fraction, whole, is_at_most}
 use Rattle.qm_frac.specs.Checked.{Checked, and_then, added, multiplied}
 use Rattle.qm_frac.specs.declared.leaves.Leaves.{Leaves}
-use Rattle.qm_frac.specs.Gcd.{gcd_of, gcd_within}
 use Rattle.qm_frac.specs.Lowest.{IsInRange, lowest_terms, lowest_parts}
 use Rattle.qm_frac.proofs.SignLaws.{signed_abs}
 use Rattle.qm_frac.proofs.Terms.{in_range_small}
+use Rattle.qm_frac.proofs.Divisors.{gcd_of-one}
 use Rattle.qm_model.specs.declared.range.Range.{Range}
 use Rattle.qm_model.specs.declared.row.Term.{Term}
 use Rattle.qm_model.specs.declared.variable.Var.{Var}
 use Rattle.qm_model.specs.Sizes.{reach_in_vars, terms_size}
-use Rattle.qm_trees.specs.declared.rule.Rule.TheVariants as rule
-use Rattle.qm_trees.specs.Verdicts.{Verdict, answer_of}
-use Rattle.qm_trees.specs.Ranges.{counts_right, judge_each, judge_parts}
+use Rattle.qm_model.proofs.Sizes.{one_le_reach}
+use Rattle.qm_trees.specs.Verdicts.{answer_of}
 use Rattle.qm_trees.specs.Leaves.{add_terms, are_in_bounds}
 use Rattle.qm_trees.specs.declared.policy.Policy.{Policy, Answer, out-Policy}
 use Rattle.qm_trees.specs.declared.policy.Policy.TheVariants.{rolls-Answer}
 use Rattle.qm_trees.specs.declared.policy.Below.TheViews.{out-roll-Policy}
 use Rattle.qm_trees.specs.declared.policy.PolicyPart.{PolicyPart}
 use Rattle.qm_trees.specs.declared.policy.Below.TheOpen as node
-use Rattle.qm_trees.specs.PolicyJudgement.{Layer, judge_move, judge_policy}
+use Rattle.qm_trees.specs.PolicyJudgement.{judge_policy}
 use Rattle.qm_model.specs.declared.game.Problem.{Problem}
+use Rattle.qm_policy.specs.Parts.{judge_answer}
 use Rattle.qm_policy.specs.Steps.{add_term}
-
--- a whole number is in lowest terms
-gcd-one : (n : ℕ) → gcd_of n 1 ≡ 1
-unfolding gcd_of gcd_within
-gcd-one n = refl
 
 pub lowest_whole : (n : ℤ) → lowest_terms n (pos 1) ≡ whole n
 unfolding lowest_parts
-lowest_whole n = rw (gcd-one (unsigned_abs n), div-one, signed_abs) refl
+lowest_whole n = rw (gcd_of-one (unsigned_abs n), div-one, signed_abs) refl
 
 pub whole_in_range : (n : ℤ) → unsigned_abs n < 2 ^ 127 → IsInRange (lowest_terms n (pos 1))
 whole_in_range n h = in_range_small n 1 h (omega arith)
@@ -45,13 +40,13 @@ whole_in_range n h = in_range_small n 1 h (omega arith)
 answers : (parts : List PolicyPart) → out-Policy (Answer parts) ≡ node.Answer parts
 answers parts = ap out-Policy (sym (rolls-Answer parts)) ∙ out-roll-Policy (node.Answer parts)
 
-pub answer_move : (P : Problem) (v : Fraction) (rest : List Var) (x : Var) (later : List Var) (depth : ℕ) (bx : List Range) (policy : Policy) (parts slice : List PolicyPart)
-    → rest ≡ x ∷ later → policy ≡ Answer parts → slice ≡ parts
-    → answer_of (judge_move P x depth (judge_policy P v later (depth + 1)) bx (node.Answer slice)) ≡ answer_of (judge_policy P v rest depth bx policy)
-answer_move P v rest x later depth bx policy parts slice e is same =
-    ap (λ ps. answer_of (judge_move P x depth (judge_policy P v later (depth + 1)) bx (node.Answer ps))) same
-    ∙ sym (ap (λ (layer : Layer). answer_of (judge_move P x depth (judge_policy P v later (depth + 1)) bx layer)) (ap out-Policy is ∙ answers parts))
-    ∙ sym (ap (λ xs. answer_of (judge_policy P v xs depth bx policy)) e)
+pub answer_judged : (P : Problem) (v : Fraction) (rest : List Var) (depth : ℕ) (bx : List Range) (policy : Policy) (parts slice : List PolicyPart) → policy ≡ Answer parts → slice ≡ parts
+    → answer_of (judge_answer P v rest depth bx slice) ≡ answer_of (judge_policy P v rest depth bx policy)
+answer_judged P v rest depth bx policy parts slice is same = by rest (ap out-Policy is ∙ answers parts ∙ sym (ap (λ ps. node.Answer ps) same))
+  where
+    by : (xs : List Var) → out-Policy policy ≡ node.Answer slice → answer_of (judge_answer P v xs depth bx slice) ≡ answer_of (judge_policy P v xs depth bx policy)
+    by [] layer = rw layer refl
+    by (x ∷ later) layer = rw layer refl
 
 -- ---- bounds
 
@@ -87,14 +82,9 @@ module _ (value : Term → Fraction) (ts : List Term) (i : ℕ) (t : Term) (s : 
 
 -- ---- sizes
 
-reach_some : (xs : List Var) (var : ℕ) → 1 ≤ reach_in_vars xs var
-reach_some [] var = omega arith
-reach_some (x ∷ xs) zero = omega arith
-reach_some (x ∷ xs) (suc var) = reach_some xs var
-
 pub coefs_fit : (xs : List Var) (ts : List Term) → terms_size (reach_in_vars xs) ts ≤ 2 ^ 126 → All (λ t. unsigned_abs t.coef < 2 ^ 127) ts
 coefs_fit xs [] h = All-nil (λ t. unsigned_abs t.coef < 2 ^ 127)
 coefs_fit xs (t ∷ ts) h =
     let split = sum_by-cons (λ (u : Term). unsigned_abs u.coef * reach_in_vars xs u.var) t ts in
-    let more = mul-le-mul_left (unsigned_abs t.coef) (reach_some xs t.var) in
+    let more = mul-le-mul_left (unsigned_abs t.coef) (one_le_reach xs t.var) in
     All-cons (λ u. unsigned_abs u.coef < 2 ^ 127) t ts (omega (arith, split, more, h)) (coefs_fit xs ts (omega (arith, split, h)))

@@ -13,10 +13,11 @@ use Rattle.qm_model.specs.declared.row_id.RowId.{RowId}
 use Rattle.qm_model.specs.declared.variable.Var.{Var}
 use Rattle.qm_model.specs.Boxes.{IsBox, IsInside, least_value}
 use Rattle.qm_model.specs.Linear.{coefficient}
+use Rattle.qm_model.specs.Ranges.{range_at}
 use Rattle.qm_model.proofs.BoxLaws.{IsBox-set}
 use Rattle.qm_prop.specs.declared.course.Course.{Course}
 use Rattle.qm_prop.specs.declared.reason.Reason.{Reason}
-use Rattle.qm_prop.specs.Courses.{by_term, by_term_in, followed, is_whole_at, range_at, reason_in}
+use Rattle.qm_prop.specs.Courses.{by_term, by_term_in, followed, is_whole_at, reason_in}
 use Rattle.qm_prop.specs.Narrower.{narrower, slack_of}
 use Rattle.qm_prop.proofs.LeastValues.{IsTermOf, least_value-set}
 use Rattle.qm_prop.proofs.Narrowing.{narrower-is}

@@ -13,7 +13,8 @@ use Rattle.qm_model.specs.declared.variable.Var.{Var}
 use Rattle.qm_model.specs.Boxes.{least_value}
 use Rattle.qm_model.specs.Linear.{form}
 use Rattle.qm_model.specs.Points.{HoldsOver}
-use Rattle.qm_prop.specs.Courses.{is_whole_at, range_at}
+use Rattle.qm_model.specs.Ranges.{range_at}
+use Rattle.qm_prop.specs.Courses.{is_whole_at}
 use Rattle.qm_prop.specs.Narrower.{narrower, slack_of}
 use Rattle.qm_prop.specs.Points.{AreIn, IsValueIn}
 use Rattle.qm_prop.proofs.LeastValues.{IsTermOf, apart-le}

@@ -5,6 +5,7 @@ use Rattle.std.specs.List.{fold}
 use Rattle.std.proofs.lemmas.List.Elements.{All-head, All-tail}
 use Rattle.std.proofs.lemmas.List.Sums.{fold-append}
 use Rattle.std.proofs.lemmas.Option.{slice_get-get_or}
+use Rattle.qm_math.proofs.WholeTests.{lt_of_test, le_of_false}
 use Rattle.qm_model.specs.declared.game.Problem.{Problem}
 use Rattle.qm_model.specs.declared.range.Range.{Range}
 use Rattle.qm_model.specs.declared.row.Row.{Row}
@@ -13,17 +14,18 @@ use Rattle.qm_model.specs.declared.row_id.RowId.{RowId}
 use Rattle.qm_model.specs.declared.variable.Var.{Var}
 use Rattle.qm_model.specs.Boxes.{IsBox, IsDead, IsInside, least_value}
 use Rattle.qm_model.specs.Sound.{IsRowOver}
+use Rattle.qm_model.specs.Ranges.{range_at}
 use Rattle.qm_model.proofs.BoxLaws.{IsBox-length, IsBox-set}
 use Rattle.qm_prop.specs.declared.course.Course.{Course}
 use Rattle.qm_prop.specs.declared.reason.Reason.{Reason}
-use Rattle.qm_prop.specs.Courses.{Swept, by_row, by_term, followed, is_dead, is_whole_at, range_at, reason_in, sweep_rows, swept}
+use Rattle.qm_prop.specs.Courses.{Swept, by_row, by_term, followed, is_dead, is_whole_at, reason_in, sweep_rows, swept}
 use Rattle.qm_prop.specs.Narrower.{slack_of}
 use Rattle.qm_prop.specs.Reasons.{AreReasons, Follows, KeepsPoints, box_after, narrowed, row_named}
 use Rattle.qm_prop.proofs.Found.{by_reason, by_term_in-least, reason-is}
 use Rattle.qm_prop.proofs.Keeping.{term-keeps}
 use Rattle.qm_prop.proofs.LeastValues.{IsTermOf, terms-of}
 use Rattle.qm_prop.proofs.Narrowing.{narrower-is}
-use Rattle.qm_prop.proofs.Rest.{alive_of_test, by_death, dead_of_test}
+use Rattle.qm_prop.proofs.Rest.{by_death}
 
 -- the reasons lead from the given box to the course's
 pub record IsCourse (P : Problem) (given : List Range) (s : Course) : Type 0 where
@@ -102,10 +104,10 @@ sweep_rows-course P given name number (row ∷ rows) s named over is =
       course = is;
       dead = λ other at.
           subst (λ o. IsSomeAnd (row_named P o) (IsDead s.bx)) (unsome (name number) other at)
-          (subst (λ o. IsSomeAnd o (IsDead s.bx)) (sym here) (dead_of_test row.right (least_value row.terms s.bx) e));
+          (subst (λ o. IsSomeAnd o (IsDead s.bx)) (sym here) (lt_of_test row.right (least_value row.terms s.bx) e));
     })
     (λ e.
-    let alive = alive_of_test row.right (least_value row.terms s.bx) e in
+    let alive = le_of_false row.right (least_value row.terms s.bx) e in
     let after = by_terms-course P given (name number) row row.terms s here (goods P.vars row (All-head (IsRowOver P.vars) row rows over)) alive is in
     sweep_rows-course P given name (suc number) rows next
     (λ i. let more : number + suc i ≡ suc number + i = omega arith in rw more at (named (suc i)))

@@ -1,30 +1,26 @@
 -- A sweep that adds no reason leaves the course, and then no row alone narrows its box.
-use Rattle.std.proofs.Common.{◌≡◌, ◌∙◌, ap, refl, subst, ℕ, suc, ◌≤◌, Bool, true, false, List, [], ◌∷◌, length, length-append, arith, All, ℤ, ◌<ℤ◌, ◌≤ℤ◌}
-use Rattle.std.specs.Prelude.{Option, Some, None, int_lt, if◌then◌else◌}
+use Rattle.std.proofs.Common.{◌≡◌, ◌∙◌, ap, refl, subst, ℕ, suc, ◌≤◌, Bool, true, false, List, [], ◌∷◌, length, length-append, arith, All}
+use Rattle.std.specs.Prelude.{Option, Some, None, if◌then◌else◌}
 use Rattle.std.specs.List.{fold}
 use Rattle.std.specs.Option.{option_map}
 use Rattle.std.proofs.lemmas.Int.{ints}
 use Rattle.std.proofs.lemmas.List.Elements.{All-cons}
+use Rattle.qm_math.proofs.WholeTests.{le_of_false}
 use Rattle.qm_model.specs.declared.range.Range.{Range}
 use Rattle.qm_model.specs.declared.row.Row.{Row}
 use Rattle.qm_model.specs.declared.row.Term.{Term}
 use Rattle.qm_model.specs.declared.row_id.RowId.{RowId}
 use Rattle.qm_model.specs.declared.variable.Var.{Var}
 use Rattle.qm_model.specs.Boxes.{least_value}
+use Rattle.qm_model.specs.Ranges.{range_at}
 use Rattle.qm_prop.specs.declared.course.Course.{Course}
 use Rattle.qm_prop.specs.declared.reason.Reason.{Reason}
-use Rattle.qm_prop.specs.Courses.{Swept, by_row, by_term, is_dead, is_whole_at, range_at, reason_in, sweep_rows, swept}
+use Rattle.qm_prop.specs.Courses.{Swept, by_row, by_term, is_dead, is_whole_at, reason_in, sweep_rows, swept}
 use Rattle.qm_prop.specs.Narrower.{narrower, slack_of}
 use Rattle.qm_prop.specs.Propagation.{IsAtRest}
 use Rattle.qm_prop.proofs.Found.{by_reason, by_term_in-more, by_terms-more}
 
 -- ---- a row that is dead
-pub dead_of_test : (a b : ℤ) → int_lt a b ≡ true → a <ℤ b
-dead_of_test a b e = grind (arith, ints)
-
-pub alive_of_test : (a b : ℤ) → int_lt a b ≡ false → b ≤ℤ a
-alive_of_test a b e = grind (arith, ints)
-
 -- ---- a term
 -- the term does not narrow its variable over the box
 abbrev pub IsStill : List Var → Row → List Range → Term → Type 0
@@ -82,7 +78,7 @@ sweep_rows-rest xs name number (row ∷ rows) s none same =
     let here = by_terms-rest xs (name number) row row.terms s (omega (arith, least, more, same)) in
     let rest = sweep_rows-rest xs name (suc number) rows s (subst (λ s'. (sweep_rows xs name (suc number) rows s').dead ≡ None) here.0 none)
     (subst (λ s'. length (sweep_rows xs name (suc number) rows s').course.reasons ≡ length s.reasons) here.0 same) in
-    let alive = alive_of_test row.right (least_value row.terms s.bx) e in (
+    let alive = le_of_false row.right (least_value row.terms s.bx) e in (
       ap (λ s'. (sweep_rows xs name (suc number) rows s').course) here.0 ∙ rest.0,
       All-cons (IsAtRest xs s.bx) row rows (record { alive = λ dead. omega (arith, ints, alive, dead); still = here.1 }) rest.1,
     ))

@@ -1,5 +1,5 @@
 -- A row alone narrows a range exactly as far as its slack says.
-use Rattle.std.proofs.Common.{◌≡◌, ◌≢◌, ◌∙◌, sym, ap, refl, subst, ℕ, zero, suc, ◌+◌, ◌-◌, ◌*◌, ◌/◌, ◌<◌, ◌≤◌, ◌↔◌, inl, inr, [], ◌∷◌, arith, unsigned_abs, Bool, true, false, ℤ, pos, ◌+ℤ◌, ◌-ℤ◌, ◌*ℤ◌, neg_ℤ, ◌≤ℤ◌, ◌<ℤ◌}
+use Rattle.std.proofs.Common.{◌≡◌, ◌≢◌, ◌∙◌, sym, ap, refl, subst, ℕ, suc, ◌+◌, ◌-◌, ◌*◌, ◌/◌, ◌<◌, ◌≤◌, ◌↔◌, inl, inr, [], ◌∷◌, arith, unsigned_abs, Bool, true, false, ℤ, pos, ◌+ℤ◌, ◌-ℤ◌, ◌*ℤ◌, neg_ℤ, ◌≤ℤ◌, ◌<ℤ◌}
 use Rattle.std.specs.Prelude.{negsuc, nat_lt, Some, None, unwrap_or, if◌then◌else◌}
 use Rattle.std.proofs.Math.Nat.{le-div_iff_mul-le}
 use Rattle.std.proofs.lemmas.Bool.Decides.{leb_tells}
@@ -8,6 +8,7 @@ use Rattle.qm_math.specs.Ranges.{IsBetween, count_of, least_product}
 use Rattle.qm_math.proofs.Polynomials.{◌⊗◌, minus}
 use Rattle.qm_math.proofs.Ring.{x0, x1, ring}
 use Rattle.qm_math.proofs.Products.{*ℤ-add}
+use Rattle.qm_math.proofs.Magnitudes.{unsigned_abs-nonzero}
 use Rattle.qm_model.specs.declared.range.Range.{Range}
 use Rattle.qm_prop.specs.Narrower.{cut_to, range_by, room_of, width_of}
 use Rattle.qm_prop.proofs.Keeping.{count_is}
@@ -90,11 +91,6 @@ stays_iff whole coef slack r v between =
     (λ short. cut_iff coef room r v between)
     (λ long. (λ h. omega (arith, long, far-width coef r v between), λ h. between))
 
-size_some : (coef : ℤ) → coef ≢ pos 0 → 0 < unsigned_abs coef
-size_some (pos zero) some = absurd (some refl)
-size_some (pos (suc n)) some = omega arith
-size_some (negsuc k) some = omega arith
-
 through : {A B C : Type 0} → A ↔ B → B ↔ C → A ↔ C
 through f g = (λ a. g.0 (f.0 a), λ c. f.1 (g.1 c))
 
@@ -102,12 +98,12 @@ pub whole-exactly : (coef : ℤ) (slack : ℕ) (r : Range) (v : ℤ) → coef �
     → IsBetween (range_by true coef slack r).low (range_by true coef slack r).high v ↔ ((coef *ℤ v) ≤ℤ (least_product coef r.low r.high +ℤ pos slack))
 whole-exactly coef slack r v some between =
     through (stays_iff true coef slack r v between)
-    (through (room-whole slack (unsigned_abs coef) (far_of coef r v) (size_some coef some))
+    (through (room-whole slack (unsigned_abs coef) (far_of coef r v) (unsigned_abs-nonzero coef some))
     (beyond (least_product coef r.low r.high) (coef *ℤ v) (unsigned_abs coef * far_of coef r v) slack (far-multiple coef r v between)))
 
 pub continuous-exactly : (coef : ℤ) (slack : ℕ) (r : Range) (v : ℤ) → coef ≢ pos 0 → IsBetween r.low r.high v
     → IsBetween (range_by false coef slack r).low (range_by false coef slack r).high v ↔ ((coef *ℤ v) <ℤ (least_product coef r.low r.high +ℤ pos (slack + unsigned_abs coef)))
 continuous-exactly coef slack r v some between =
     through (stays_iff false coef slack r v between)
-    (through (room-outer slack (unsigned_abs coef) (far_of coef r v) (size_some coef some))
+    (through (room-outer slack (unsigned_abs coef) (far_of coef r v) (unsigned_abs-nonzero coef some))
     (beyond_strict (least_product coef r.low r.high) (coef *ℤ v) (unsigned_abs coef * far_of coef r v) (slack + unsigned_abs coef) (far-multiple coef r v between)))

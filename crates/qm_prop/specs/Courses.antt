@@ -1,5 +1,5 @@
 -- Sweeps through the rows of a problem, each of which narrows the box so far.
-use Rattle.std.specs.Prelude.{ℕ, zero, suc, ◌==◌, ◌++◌, int_lt, Bool, true, false, Option, Some, None, List, [], ◌∷◌, length, slice_get, slice_index_or, slice_set, pos, if◌then◌else◌}
+use Rattle.std.specs.Prelude.{ℕ, zero, suc, ◌==◌, ◌++◌, int_lt, Bool, true, false, Option, Some, None, List, [], ◌∷◌, length, slice_get, slice_set, if◌then◌else◌}
 use Rattle.std.specs.Option.{option_map, option_map_or}
 use Rattle.std.specs.List.{fold}
 use Rattle.qm_model.specs.declared.game.Problem.{Problem}
@@ -10,6 +10,7 @@ use Rattle.qm_model.specs.declared.row_id.RowId.{RowId}
 use Rattle.qm_model.specs.declared.row_id.RowId.TheVariants as id
 use Rattle.qm_model.specs.declared.variable.Var.{Var}
 use Rattle.qm_model.specs.Boxes.{least_value}
+use Rattle.qm_model.specs.Ranges.{range_at}
 use Rattle.qm_prop.specs.declared.course.Course.{Course}
 use Rattle.qm_prop.specs.declared.reason.Propagated.{Propagated}
 use Rattle.qm_prop.specs.declared.reason.Propagated.TheVariants.{Narrowed, Dead}
@@ -18,10 +19,7 @@ use Rattle.qm_prop.specs.declared.sweep.Kind.{Kind}
 use Rattle.qm_prop.specs.declared.sweep.Kind.TheVariants as kind
 use Rattle.qm_prop.specs.Narrower.{narrower, slack_of}
 
--- the range of a variable, and whether it is whole
-abbrev pub range_at : List Range → ℕ → Range
-range_at bx var = slice_index_or bx var (record { low = pos 0; high = pos 0 })
-
+-- whether the variable is whole
 abbrev pub is_whole_at : List Var → ℕ → Bool
 is_whole_at xs var = option_map_or (λ (x : Var). x.whole) (slice_get xs var) false
 

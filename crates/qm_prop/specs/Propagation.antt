@@ -6,11 +6,12 @@ use Rattle.qm_model.specs.declared.row.Row.{Row}
 use Rattle.qm_model.specs.declared.row_id.RowId.{RowId}
 use Rattle.qm_model.specs.declared.variable.Var.{Var}
 use Rattle.qm_model.specs.Boxes.{IsBox, IsDead}
+use Rattle.qm_model.specs.Ranges.{range_at}
 use Rattle.qm_prop.specs.declared.reason.Propagated.{Propagated}
 use Rattle.qm_prop.specs.declared.reason.Propagated.TheVariants as end
 use Rattle.qm_prop.specs.declared.reason.Reason.{Reason}
 use Rattle.qm_prop.specs.Narrower.{narrower, slack_of}
-use Rattle.qm_prop.specs.Courses.{is_whole_at, range_at}
+use Rattle.qm_prop.specs.Courses.{is_whole_at}
 use Rattle.qm_prop.specs.Points.{AreIn, IsPoint}
 use Rattle.qm_prop.specs.Reasons.{AreReasons, box_after, row_named}
 

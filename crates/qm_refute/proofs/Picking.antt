@@ -1,13 +1,21 @@
 -- Boxes in which universal variables take the values of a completion, one after the other.
-use Rattle.std.proofs.Common.{◌≡◌, ℕ, zero, suc, ◌+◌, ◌<◌, Bool, true, false, List, [], ◌∷◌, ◌++◌, length, set, take, drop, get_or, refl, sym, ap, ◌∙◌, subst, arith, ℤ, pos}
+use Rattle.std.proofs.Common.{◌≡◌, ℕ, zero, suc, ◌+◌, ◌<◌, ◌≤◌, true, false, List, [], ◌∷◌, ◌++◌, length, set, take, drop, refl, sym, ap, ◌∙◌, arith, ℤ, pos}
 use Rattle.std.specs.Prelude.{◌&&◌}
 use Rattle.std.proofs.lemmas.Bool.{and_parts}
-use Rattle.std.proofs.lemmas.List.{drop_more}
+use Rattle.std.proofs.lemmas.List.{drop_more, length-drop, length-take}
 use Rattle.qm_model.specs.declared.range.Range.{Range}
 use Rattle.qm_model.specs.declared.variable.Var.{Var}
-use Rattle.qm_model.specs.Plays.{is_universal}
+use Rattle.qm_model.specs.declared.game.Problem.{Problem}
+use Rattle.qm_model.specs.Boxes.{IsBox}
+use Rattle.qm_model.specs.Plays.{is_universal, whole_vars}
+use Rattle.qm_model.proofs.BoxLaws.{IsBox-length}
 use Rattle.qm_trees.specs.Picks.{fit, fixed, picked}
-use Rattle.qm_trees.specs.Ranges.{is_in, range_at, single}
+use Rattle.qm_model.specs.Ranges.{is_in, range_at, single}
+
+-- the variables that are still to be set have their ranges behind the depth
+pub rest_in_box : (P : Problem) (rest : List Var) (depth : ℕ) (bx : List Range) → rest ≡ drop depth (whole_vars P) → 0 < length rest → IsBox P.vars bx → depth + length rest ≤ length bx
+rest_in_box P rest depth bx from_depth some box =
+    omega (arith, ap length from_depth, length-drop depth (whole_vars P), length-take P.wholes P.vars, IsBox-length P.vars bx box)
 
 -- no values fix nothing
 fixed_none : (xs : List Var) (bx : List Range) → fixed xs bx [] ≡ bx

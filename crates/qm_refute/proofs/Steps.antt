@@ -1,5 +1,5 @@
 -- How the tests go on, step by step.
-use Rattle.std.proofs.Common.{◌≡◌, ℕ, zero, suc, ◌+◌, ◌<◌, ◌≤◌, Bool, true, false, List, [], ◌∷◌, length, drop, get_or, refl, sym, ap, ◌∙◌, arith, ℤ, Ok}
+use Rattle.std.proofs.Common.{◌≡◌, ℕ, zero, suc, ◌+◌, ◌<◌, ◌≤◌, true, false, List, [], ◌∷◌, length, drop, get_or, refl, sym, ap, ◌∙◌, arith, ℤ}
 use Rattle.std.specs.Prelude.{nat_eq}
 use Rattle.std.proofs.lemmas.List.{drop_all, drop_more}
 use Rattle.std.proofs.lemmas.Bool.Decides.{nat_tests}
@@ -14,12 +14,13 @@ use Rattle.qm_trees.specs.declared.refutation.Refute.TheVariants.{rolls-Over}
 use Rattle.qm_trees.specs.declared.refutation.Refute.TheViews.{out-roll-Refute}
 use Rattle.qm_trees.specs.declared.refutation.Refute.TheOpen as node
 use Rattle.qm_trees.specs.declared.refutation.RefutePart.{RefutePart}
-use Rattle.qm_trees.specs.Ranges.{is_in}
+use Rattle.qm_model.specs.Ranges.{is_in}
 use Rattle.qm_trees.specs.Picks.{fit}
 use Rattle.qm_trees.specs.Entries.{AreEntries, Combination, weighted_rows}
 use Rattle.qm_trees.specs.Closing.{closing}
 use Rattle.qm_trees.specs.Verdicts.{answer_of}
-use Rattle.qm_trees.specs.RefuteJudgement.{Layer, all_named, closes_here, judge_move, judge_refute}
+use Rattle.qm_trees.specs.RefuteJudgement.{all_named, closes_here, judge_refute}
+use Rattle.qm_refute.specs.Parts.{judge_over}
 use Rattle.qm_trees.proofs.Multipliers.{entries_all_positive}
 
 -- ---- closing
@@ -69,11 +70,10 @@ module _ (xs : List Var) (bx : List Range) (us : List ℤ) where
 overs : (parts : List RefutePart) → out-Refute (Over parts) ≡ node.Over parts
 overs parts = ap out-Refute (sym (rolls-Over parts)) ∙ out-roll-Refute (node.Over parts)
 
-pub over_move : (P : Problem) (cuts : List Row) (G : Goal) (rest : List Var) (x : Var) (later : List Var) (depth : ℕ) (bx : List Range) (tree : Refute) (parts slice : List RefutePart)
-    → rest ≡ x ∷ later → tree ≡ Over parts → slice ≡ parts
-    → answer_of (judge_move P cuts G x later depth (judge_refute P cuts [] G later (depth + 1)) bx (node.Over slice)) ≡ answer_of (judge_refute P cuts [] G rest depth bx tree)
-over_move P cuts G rest x later depth bx tree parts slice e is same =
-    let move = λ (layer : Layer). answer_of (judge_move P cuts G x later depth (judge_refute P cuts [] G later (depth + 1)) bx layer) in
-    ap (λ ps. move (node.Over ps)) same
-    ∙ sym (ap move (ap out-Refute is ∙ overs parts))
-    ∙ sym (ap (λ xs. answer_of (judge_refute P cuts [] G xs depth bx tree)) e)
+pub over_judged : (P : Problem) (cuts : List Row) (G : Goal) (rest : List Var) (depth : ℕ) (bx : List Range) (tree : Refute) (parts slice : List RefutePart) → tree ≡ Over parts → slice ≡ parts
+    → answer_of (judge_over P cuts G rest depth bx slice) ≡ answer_of (judge_refute P cuts [] G rest depth bx tree)
+over_judged P cuts G rest depth bx tree parts slice is same = by rest (ap out-Refute is ∙ overs parts ∙ sym (ap (λ ps. node.Over ps) same))
+  where
+    by : (xs : List Var) → out-Refute tree ≡ node.Over slice → answer_of (judge_over P cuts G xs depth bx slice) ≡ answer_of (judge_refute P cuts [] G xs depth bx tree)
+    by [] layer = rw layer refl
+    by (x ∷ later) layer = rw layer refl

@@ -5,9 +5,10 @@ ghost use Rattle.qm_model.specs.Sound.{IsRowOver};
 ghost use Rattle.qm_trees.specs.Entries.{row_named};
 ghost use Rattle.qm_trees.specs.RefuteJudgement.{all_named, closes_here};
 
+use crate::sought::Sought;
 use qm_combo::closes;
 use qm_frac::Leaves;
-use qm_game::{Bx, Game, Goal, Problem, Row, RowId};
+use qm_game::{Bx, Game, Problem, Row, RowId};
 use qm_trees::{Combo, Entry};
 
 /// Whether the row is there.
@@ -35,19 +36,13 @@ fn all_named(problem: &Problem, cuts: &[Row], entries: &[Entry]) -> bool
 
 /// Whether the combination's rows are there and it closes the goal over the box. Leaves where its first operation
 /// leaves.
-pub fn closes_here(
-    game: &Game,
-    cuts: &[Row],
-    bx: &Bx,
-    goal: &Goal,
-    combo: &Combo,
-) -> Result<bool, Leaves>
-    requires cuts { All (IsRowOver game.now.vars) cuts.now }
+pub fn closes_here(game: &Game, sought: Sought<'_>, bx: &Bx, combo: &Combo) -> Result<bool, Leaves>
+    requires cuts { All (IsRowOver game.now.vars) sought.cuts.now }
     requires bx { IsBox game.now.vars bx.now }
-    ensures { result ≡ closes_here game.now cuts.now bx.now (goal_of goal.now) combo.now }
+    ensures { result ≡ closes_here game.now sought.entry.cuts.now bx.now (goal_of sought.entry.goal.now) combo.now }
 {
-    if !all_named(game.problem(), cuts, combo.entries()) {
+    if !all_named(game.problem(), sought.cuts, combo.entries()) {
         return Ok(false);
     }
-    closes(game, cuts, bx, goal, combo)
+    closes(game, sought.cuts, bx, sought.goal, combo)
 }

@@ -1,10 +1,11 @@
-ghost use Rattle.std.specs.Prelude.{◌≡◌, ◌+◌, ◌<◌, ◌≤◌, ◌&&◌, ◌==◌, drop, length, pos, slice_index_or};
-ghost use Rattle.qm_model.specs.Plays.{is_universal};
+ghost use Rattle.std.specs.Prelude.{◌≡◌, ◌<◌, ◌≤◌, length, pos, slice_index_or};
+ghost use Rattle.qm_model.specs.Boxes.{IsBox};
+ghost use Rattle.qm_model.specs.Ranges.{is_in, range_at};
 ghost use Rattle.qm_trees.specs.Picks.{fit, universal_count};
-ghost use Rattle.qm_trees.specs.Ranges.{is_in, range_at};
+ghost use Rattle.qm_refute.specs.Picking.{fits_pick};
 
-use qm_cover::{contains, is_for_all, range_in};
-use qm_game::{Range, Var};
+use qm_game::{Bx, Place, Range, Var};
+use qm_model::{contains, is_for_all};
 
 /// How many of the variables are universal.
 fn universal_count(vars: &[Var]) -> usize
@@ -45,21 +46,18 @@ fn fits(vars: &[Var], ranges: &[Range], completion: &[i64]) -> bool
     used == completion.len()
 }
 
-/// Whether the universal player sets the variable at the depth, the value lies in its range, and there is one value
-/// in range for each later universal variable.
-pub fn fits_pick(
-    var: &Var,
-    later: &[Var],
-    depth: usize,
-    bx: &[Range],
-    value: i64,
-    completion: &[i64],
-) -> bool
-    requires { depth + 1 + length later.now ≤ length bx.now }
-    ensures { result ≡ ((is_universal var.now && (length completion.now == universal_count later.now)) && (is_in (range_at bx.now depth) value && fit later.now (drop (depth + 1) bx.now) completion.now)) }
+/// Whether the universal player sets the next variable, the value lies in its range, and there is one value in range
+/// for each later universal variable.
+#[tactic(auto, using(crate::proofs::Picking::rest_in_box))]
+pub fn fits_pick(here: Place<'_>, bx: &Bx, value: i64, completion: &[i64]) -> bool
+    requires { IsBox here.game.now.vars bx.now }
+    ensures { result ≡ fits_pick here.entry.rest.now here.entry.depth bx.now value completion.now }
 {
+    let Some((var, later)) = here.rest.split_first() else {
+        return false;
+    };
     is_for_all(var)
         && completion.len() == universal_count(later)
-        && contains(range_in(bx, depth), value)
-        && fits(later, &bx[depth + 1..], completion)
+        && contains(here.range(bx), value)
+        && fits(later, &bx.as_slice()[here.depth + 1..], completion)
 }

@@ -6,6 +6,7 @@ mod allowed;
 mod closing;
 mod completion;
 mod counts;
+mod sought;
 mod walk;
 
 pub use qm_trees::{Refute, RefutePart};

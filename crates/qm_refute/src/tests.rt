@@ -3,66 +3,33 @@
 // x2 = 1, and twice the row leaves at most 1. So more than 2 can't be reached.
 mod picks;
 
-ghost use Rattle.std.specs.Prelude.{◌≡◌, ◌∷◌, [], IfOk, pos, true};
-
 use super::*;
 use qm_frac::Frac;
 use qm_game::{Game, Goal, Player, Problem, Range, Row, RowId, Sense, Term, Terms, Var, whole_box};
 use qm_io::{List, Memory};
 use qm_trees::{Combo, Entry};
-use smallvec::SmallVec;
 use sqlite_items::{Boxed, Items};
 use std::alloc::Global;
 use std::test::Fail;
 
-fn binary(alloc: Global, player: Player) -> Var
-    ensures { result ≡ record { name = []; player = player; whole = true; low = pos 0; high = pos 1 } }
-{
-    Var {
-        name: List::new(alloc),
-        player,
-        whole: true,
-        low: 0,
-        high: 1,
-    }
-}
-
-fn all_terms(alloc: Global) -> Result<Terms, Memory>
-    ensures { IfOk result (λ terms. terms ≡ record { var = 0; coef = pos 1 } ∷ record { var = 1; coef = pos 1 } ∷ record { var = 2; coef = pos 1 } ∷ []) }
-{
-    let mut terms = SmallVec::new(alloc);
-    terms.push(Term { var: 0, coef: 1 })?;
-    terms.push(Term { var: 1, coef: 1 })?;
-    terms.push(Term { var: 2, coef: 1 })?;
-    Ok(Terms::new(terms))
-}
-
-fn objective(alloc: Global) -> Result<Terms, Memory>
-    ensures { IfOk result (λ terms. terms ≡ record { var = 0; coef = pos 1 } ∷ record { var = 2; coef = pos 2 } ∷ []) }
-{
-    let mut terms = SmallVec::new(alloc);
-    terms.push(Term { var: 0, coef: 1 })?;
-    terms.push(Term { var: 2, coef: 2 })?;
-    Ok(Terms::new(terms))
-}
-
 fn small_game(alloc: Global) -> Result<Game, Memory> {
     let mut vars = List::new(alloc);
-    vars.push(binary(alloc, Player::Exists))?;
-    vars.push(binary(alloc, Player::All))?;
-    vars.push(binary(alloc, Player::Exists))?;
+    vars.push(Var::binary(List::new(alloc), Player::Exists))?;
+    vars.push(Var::binary(List::new(alloc), Player::All))?;
+    vars.push(Var::binary(List::new(alloc), Player::Exists))?;
     let mut rows = List::new(alloc);
-    rows.push(Row {
-        terms: all_terms(alloc)?,
-        right: 2,
-    })?;
+    rows.push(Row::of(
+        alloc,
+        &[Term::new(0, 1), Term::new(1, 1), Term::new(2, 1)],
+        2,
+    )?)?;
     Ok(Game::new(Problem {
         sense: Sense::Max,
         vars,
         wholes: 3,
         rows,
         urows: List::new(alloc),
-        terms: objective(alloc)?,
+        terms: Terms::of(alloc, &[Term::new(0, 1), Term::new(2, 2)])?,
         constant: 0,
         scale: 1,
     }))

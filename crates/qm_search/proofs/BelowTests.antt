@@ -3,7 +3,7 @@ use Rattle.std.proofs.Common.{◌≡◌, true, false, pos, ◌*ℤ◌, arith}
 use Rattle.std.proofs.lemmas.Int.{ints}
 use Rattle.qm_math.specs.Fraction.{Fraction, IsAtMost, is_below}
 use Rattle.qm_math.proofs.Compare.{below_at_most_weak}
-use Rattle.qm_trees.proofs.Lines.{lt_of_test}
+use Rattle.qm_math.proofs.WholeTests.{lt_of_test}
 
 pub at_most_of_below : (a b : Fraction) → is_below a b ≡ true → IsAtMost a b
 at_most_of_below a b e = below_at_most_weak a b (lt_of_test (a.num *ℤ pos b.den) (b.num *ℤ pos a.den) e)

@@ -18,7 +18,7 @@ use Rattle.qm_trees.specs.declared.refutation.Refute.TheVariants.{rolls-Over}
 use Rattle.qm_trees.specs.declared.refutation.Refute.TheViews.{out-roll-Refute}
 use Rattle.qm_trees.specs.declared.refutation.Refute.TheOpen as node
 use Rattle.qm_trees.specs.declared.refutation.RefutePart.{RefutePart}
-use Rattle.qm_trees.specs.Ranges.{range_at, single}
+use Rattle.qm_model.specs.Ranges.{range_at, single}
 use Rattle.qm_trees.specs.PolicyRight as policy_right
 use Rattle.qm_trees.specs.PolicyRight.{IsRightPolicy, IsPolicyInRange}
 use Rattle.qm_trees.specs.RefuteJudgement.{range_of, below_of}
@@ -26,9 +26,9 @@ use Rattle.qm_trees.specs.RefuteRight.{IsRightMove, IsRightRefutation, IsMoveInR
 use Rattle.qm_trees.proofs.HarderGoals.{right_at_harder, in_range_at_harder}
 use Rattle.qm_search.specs.declared.choices.Best.{Best}
 use Rattle.qm_search.specs.declared.choices.Choices.{Choices}
-use Rattle.qm_search.specs.Choices.{AreChoices, IsBest, better_of, goal_beyond}
-use Rattle.qm_search.specs.Outcomes.{IsReached, Secures, Refutes}
-use Rattle.qm_search.specs.Parts.{AreSingles, IsBehind}
+use Rattle.qm_search.specs.ChoiceSteps.{AreChoices, IsBest, better_of, goal_beyond}
+use Rattle.qm_search.specs.OutcomeSteps.{IsReached, Secures, Refutes}
+use Rattle.qm_search.specs.PartSteps.{AreSingles, IsBehind}
 use Rattle.qm_search.proofs.BelowTests.{at_most_of_below, at_most_of_not}
 use Rattle.qm_search.proofs.SingleParts.{push_singles, singles_cover}
 

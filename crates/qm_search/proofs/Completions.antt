@@ -11,10 +11,10 @@ use Rattle.qm_model.specs.Legal.{universal_part}
 use Rattle.qm_model.specs.Plays.{AreWithin, BeginWithin, HoldsAt, IsPlay, IsWithin, is_universal, spread, universal_vars, whole_vars}
 use Rattle.qm_model.proofs.Legality.{both_within, parts_within}
 use Rattle.qm_model.proofs.Players.{is_for_all, not_universal}
-use Rattle.qm_trees.specs.Ranges.{single}
+use Rattle.qm_model.specs.Ranges.{single}
 use Rattle.qm_legal.specs.Queries.{low_of, set_values}
-use Rattle.qm_search.specs.Places.{Completes, IsSearchBox, first_of}
-use Rattle.qm_search.proofs.SearchPlaces.{next_of}
+use Rattle.qm_search.specs.PlaceSteps.{Completes, IsSearchBox, next_value}
+use Rattle.qm_search.proofs.SearchBoxes.{below}
 
 -- ---- the universal values of the first variables
 
@@ -52,23 +52,23 @@ values_rest (x ∷ xs) (suc n) (v ∷ vs) long = by (is_universal x) (values_res
     by true h = h
     by false h = h
 
--- ---- completions at a place
+-- ---- completions at a box
 
 -- a completion at a universal variable begins with a value of it
 pub record Begins (x : Var) (later : List Var) (completion : List ℤ) : Type 0 where
   pub some : 0 < length completion
-  pub is : completion ≡ first_of completion ∷ drop 1 completion
-  pub within : IsWithin x (first_of completion)
+  pub is : completion ≡ next_value completion ∷ drop 1 completion
+  pub within : IsWithin x (next_value completion)
   pub others : AreWithin (filter is_universal later) (drop 1 completion)
 
 begins : (x : Var) (later : List Var) (completion : List ℤ) → AreWithin (x ∷ filter is_universal later) completion → Begins x later completion
 begins x later [] within = absurd within
 begins x later (u ∷ us) within = record { some = omega arith; is = refl; within = within.0; others = within.1 }
 
-module _ (P : Problem) (rest : List Var) (depth : ℕ) (bx : List Range) (here : IsSearchBox P rest depth bx) (long : depth ≤ length bx) (completion : List ℤ) (completes : Completes P depth bx completion) where
+module _ (P : Problem) (rest : List Var) (depth : ℕ) (bx : List Range) (from_depth : rest ≡ drop depth (whole_vars P)) (long : depth ≤ length bx) (completion : List ℤ) (completes : Completes P depth bx completion) where
   universal_rest : drop (length (set_values P depth bx)) (universal_vars P) ≡ filter is_universal rest
   universal_rest =
-      values_rest (whole_vars P) depth (map low_of bx) (omega (arith, long, length-map bx low_of)) ∙ ap (filter is_universal) (sym here.place.rest_is)
+      values_rest (whole_vars P) depth (map low_of bx) (omega (arith, long, length-map bx low_of)) ∙ ap (filter is_universal) (sym from_depth)
 
   values_within : BeginWithin (universal_vars P) (set_values P depth bx) × AreWithin (drop (length (set_values P depth bx)) (universal_vars P)) completion
   values_within = parts_within (universal_vars P) (set_values P depth bx) completion completes.within
@@ -77,35 +77,36 @@ module _ (P : Problem) (rest : List Var) (depth : ℕ) (bx : List Range) (here :
   pub completion_within : AreWithin (filter is_universal rest) completion
   completion_within = subst (λ xs. AreWithin xs completion) universal_rest values_within.1
 
-module _ (P : Problem) (x : Var) (later : List Var) (depth : ℕ) (bx : List Range) (here : IsSearchBox P (x ∷ later) depth bx) where
-  next_values : (v : ℤ) → set_values P (depth + 1) (set bx depth (single v)) ≡ set_values P depth bx ++ (if is_universal x then v ∷ [] else [])
-  next_values v =
-      let next = next_of P x later depth bx here in
+module _ (P : Problem) (x : Var) (later : List Var) (depth : ℕ) (bx : List Range) (from_depth : x ∷ later ≡ drop depth (whole_vars P)) (here : IsSearchBox P depth bx) where
+  first : depth < length bx
+  first = below P x later depth bx from_depth here
+
+  set_values-more : (v : ℤ) → set_values P (depth + 1) (set bx depth (single v)) ≡ set_values P depth bx ++ (if is_universal x then v ∷ [] else [])
+  set_values-more v =
       let one : depth + 1 ≡ suc depth = omega arith in
-      rw one (values_push (whole_vars P) depth bx x later v (sym here.place.rest_is) next.below)
+      rw one (values_push (whole_vars P) depth bx x later v (sym from_depth) first)
 
   -- an existential variable's value leaves each completion one
   pub completes_existential : (v : ℤ) (completion : List ℤ) → x.player ≡ Exists → Completes P depth bx completion → Completes P (depth + 1) (set bx depth (single v)) completion
   completes_existential v completion player completes =
-      let values = next_values v ∙ ap (λ (b : Bool). set_values P depth bx ++ (if b then v ∷ [] else [])) (not_universal x player) ∙ append-nil (set_values P depth bx) in
+      let values = set_values-more v ∙ ap (λ (b : Bool). set_values P depth bx ++ (if b then v ∷ [] else [])) (not_universal x player) ∙ append-nil (set_values P depth bx) in
       subst (λ us. IsPlay P (us ++ completion)) (sym values) completes
 
   module _ (player : x.player ≡ Universal) where
     -- a universal variable's value stands before the others
     pub values_before : (v : ℤ) (others : List ℤ) → set_values P depth bx ++ v ∷ others ≡ set_values P (depth + 1) (set bx depth (single v)) ++ others
     values_before v others =
-        let values = next_values v ∙ ap (λ (b : Bool). set_values P depth bx ++ (if b then v ∷ [] else [])) (is_for_all x player) in
+        let values = set_values-more v ∙ ap (λ (b : Bool). set_values P depth bx ++ (if b then v ∷ [] else [])) (is_for_all x player) in
         sym (append_assoc (set_values P depth bx) (v ∷ []) others) ∙ ap (λ us. us ++ others) (sym values)
 
     module _ (completion : List ℤ) (completes : Completes P depth bx completion) where
       pub begins_here : Begins x later completion
       begins_here =
-          let next = next_of P x later depth bx here in
-          let within = completion_within P (x ∷ later) depth bx here (omega (arith, next.below)) completion completes in
+          let within = completion_within P (x ∷ later) depth bx from_depth (omega (arith, first)) completion completes in
           begins x later completion (subst (λ (b : Bool). AreWithin (if b then x ∷ filter is_universal later else filter is_universal later) completion) (is_for_all x player) within)
 
       -- the first value is legal, and the others complete it
-      completes_first : (v : ℤ) → v ≡ first_of completion → Completes P (depth + 1) (set bx depth (single v)) (drop 1 completion)
+      completes_first : (v : ℤ) → v ≡ next_value completion → Completes P (depth + 1) (set bx depth (single v)) (drop 1 completion)
       completes_first v e =
           let whole : completion ≡ v ∷ drop 1 completion = subst (λ u. completion ≡ u ∷ drop 1 completion) (sym e) begins_here.is in
           subst (IsPlay P) (ap (λ us. set_values P depth bx ++ us) whole ∙ values_before v (drop 1 completion)) completes
@@ -113,12 +114,11 @@ module _ (P : Problem) (x : Var) (later : List Var) (depth : ℕ) (bx : List Ran
       -- so are all values where no uncertainty row is there
       completes_free : (v : ℤ) → P.urows ≡ [] → IsWithin x v → Completes P (depth + 1) (set bx depth (single v)) (drop 1 completion)
       completes_free v none within =
-          let next = next_of P x later depth bx here in
-          let long : depth ≤ length bx = omega (arith, next.below) in
+          let long : depth ≤ length bx = omega (arith, first) in
           let us = set_values P depth bx in
           let rest : drop (length us) (universal_vars P) ≡ x ∷ filter is_universal later =
-          universal_rest P (x ∷ later) depth bx here long completion completes ∙ ap (λ (b : Bool). if b then x ∷ filter is_universal later else filter is_universal later) (is_for_all x player) in
-          let firsts = (values_within P (x ∷ later) depth bx here long completion completes).0 in
+          universal_rest P (x ∷ later) depth bx from_depth long completion completes ∙ ap (λ (b : Bool). if b then x ∷ filter is_universal later else filter is_universal later) (is_for_all x player) in
+          let firsts = (values_within P (x ∷ later) depth bx from_depth long completion completes).0 in
           let lasts : AreWithin (drop (length us) (universal_vars P)) (v ∷ drop 1 completion) = subst (λ xs. AreWithin xs (v ∷ drop 1 completion)) (sym rest) (within, begins_here.others) in
           let play : IsPlay P (us ++ v ∷ drop 1 completion) = record {
             within = both_within (universal_vars P) us (v ∷ drop 1 completion) firsts lasts;
@@ -127,6 +127,6 @@ module _ (P : Problem) (x : Var) (later : List Var) (depth : ℕ) (bx : List Ran
           subst (IsPlay P) (values_before v (drop 1 completion)) play
 
       -- a value that goes on as the completion does
-      pub completes_known : (v : ℤ) → IsWithin x v → ((P.urows ≡ []) ⊎ (v ≡ first_of completion)) → Completes P (depth + 1) (set bx depth (single v)) (drop 1 completion)
+      pub completes_known : (v : ℤ) → IsWithin x v → ((P.urows ≡ []) ⊎ (v ≡ next_value completion)) → Completes P (depth + 1) (set bx depth (single v)) (drop 1 completion)
       completes_known v within (inl none) = completes_free v none within
       completes_known v within (inr first) = completes_first v first

@@ -25,7 +25,7 @@ use Rattle.qm_trees.specs.RefuteRight.{AreNamed, IsRightClose, IsCloseInRange, I
 use Rattle.qm_trees.proofs.CombinationCloses.{closing_exact}
 use Rattle.qm_trees.proofs.Multipliers.{weighted_dens}
 use Rattle.qm_trees.proofs.WholeValues.{dead_row_closes}
-use Rattle.qm_search.specs.Outcomes.{Refutes}
+use Rattle.qm_search.specs.OutcomeSteps.{Refutes}
 
 -- a refutation that closes at once
 pub closes_at_once : (combo : Combination) → out-Refute (Close combo) ≡ node.Close combo

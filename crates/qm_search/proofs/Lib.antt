@@ -2,7 +2,7 @@ pub mod SingleParts
 pub mod BelowTests
 pub mod ChoiceLaws
 pub mod AnswerLaws
-pub mod SearchPlaces
+pub mod SearchBoxes
 pub mod Completions
 pub mod RightPicks
 pub mod WholeBound

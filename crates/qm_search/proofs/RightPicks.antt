@@ -2,7 +2,7 @@
 use Rattle.std.proofs.Common.{◌≡◌, ℕ, zero, suc, ◌+◌, ◌<◌, ◌≤◌, List, [], ◌∷◌, ◌++◌, length, get_or, map, take, drop, set, All, arith, refl, sym, ap, subst, ◌∙◌, append-nil, ℤ, pos, negsuc, ◌*ℤ◌}
 use Rattle.std.proofs.Math.IntN.{zero-*ℤ}
 use Rattle.std.proofs.lemmas.Int.{ints}
-use Rattle.std.proofs.lemmas.List.{length-take, length-set}
+use Rattle.std.proofs.lemmas.List.{drop-drop, length-take, length-set}
 use Rattle.std.proofs.lemmas.List.Elements.{All-head, All-tail}
 use Rattle.qm_math.specs.Ranges.{IsBetween, greatest_product}
 use Rattle.qm_math.proofs.Sums.{sum_of_each-same}
@@ -21,22 +21,17 @@ use Rattle.qm_model.proofs.Forms.{sum_over-each}
 use Rattle.qm_model.proofs.Players.{by_player, is_for_all, not_universal}
 use Rattle.qm_model.proofs.UncertaintyRows.{IsUniversalAt, length-spread, universal_at_take, universal_is_whole}
 use Rattle.qm_trees.specs.Picks.{Fit, HoldsOnBox, fixed, picked}
-use Rattle.qm_trees.specs.Ranges.{single}
+use Rattle.qm_model.specs.Ranges.{range_at, single}
 use Rattle.qm_trees.specs.RefuteRight.{IsRightPick}
 use Rattle.qm_trees.proofs.PickedPlays.{between_itself, fit_at, fit_fixed, fit_next, fit_skip, next_fits, skip_fits, within_fits}
 use Rattle.qm_legal.specs.Queries.{low_of, set_values}
-use Rattle.qm_legal.specs.Search.{AreSet}
-use Rattle.qm_legal.proofs.Plays.{set_at}
-use Rattle.qm_search.specs.Places.{Completes, IsSearchBox, IsSingle}
+use Rattle.qm_legal.specs.Queries.{AreSet}
+use Rattle.qm_legal.proofs.Plays.{set_at, set_long}
+use Rattle.qm_search.specs.PlaceSteps.{Completes, IsSearchBox, IsSingle}
 use Rattle.qm_search.proofs.Completions.{completion_within, values_before}
-use Rattle.qm_search.proofs.SearchPlaces.{in_range, next_box, next_of}
+use Rattle.qm_search.proofs.SearchBoxes.{below, later_ranges}
 
 -- ---- rows over ranges of one value
-
-set_long : (xs : List Var) (bx : List Range) → AreSet xs bx → length xs ≤ length bx
-set_long [] bx are = omega arith
-set_long (x ∷ xs) [] are = absurd are
-set_long (x ∷ xs) (r ∷ bx) are = omega (arith, set_long xs bx are.1)
 
 same_product : (k v low high : ℤ) → low ≡ high → IsBetween low high v → greatest_product k low high ≡ k *ℤ v
 same_product (pos n) v low high e has = let same : high ≡ v = omega (arith, ints, e, has.0, has.1) in ap (λ u. pos n *ℤ u) same
@@ -107,31 +102,32 @@ set_fixed (x ∷ xs) (r ∷ bx) (u ∷ us) fits =
     (λ existential. rw (not_universal x existential) ((λ universal. cc), set_fixed xs bx (u ∷ us) (fit_skip x xs r bx (u ∷ us) existential fits)))
     (λ universal. rw (is_for_all x universal) ((λ again. refl), set_fixed xs bx us (fit_next x xs r bx (u ∷ us) universal fits).1))
 
-module _ (P : Problem) (x : Var) (later : List Var) (depth : ℕ) (bx : List Range) (v : ℤ) (completion : List ℤ) (here : IsSearchBox P (x ∷ later) depth bx) (player : x.player ≡ Universal) (within : IsWithin x v)
-    (completes : Completes P (depth + 1) (set bx depth (single v)) completion) where
+module _ (P : Problem) (x : Var) (later : List Var) (depth : ℕ) (bx : List Range) (from_depth : x ∷ later ≡ drop depth (whole_vars P)) (here : IsSearchBox P depth bx) (player : x.player ≡ Universal)
+    (v : ℤ) (within : IsBetween (range_at bx depth).low (range_at bx depth).high v) (completion : List ℤ) (completes : Completes P (depth + 1) (set bx depth (single v)) completion) where
   fits_later : Fit later (drop (depth + 1) bx) completion
   fits_later =
-      let next = next_of P x later depth bx here in
-      let after = completion_within P later (depth + 1) (set bx depth (single v)) (next_box P x later depth bx v here within) (omega (arith, next.below, length-set bx depth (single v))) completion completes in
-      subst (λ rs. Fit later rs completion) (ap whole_box_of (append-nil later) ∙ sym next.others) (within_fits later [] completion after)
+      let first = below P x later depth bx from_depth here in
+      let from_next : later ≡ drop (depth + 1) (whole_vars P) = ap (drop 1) from_depth ∙ drop-drop 1 depth (whole_vars P) in
+      let after = completion_within P later (depth + 1) (set bx depth (single v)) from_next (omega (arith, first, length-set bx depth (single v))) completion completes in
+      subst (λ rs. Fit later rs completion) (ap whole_box_of (append-nil later) ∙ sym (later_ranges P x later depth bx from_depth here)) (within_fits later [] completion after)
 
   -- the value and the completion are a right pick
   pub right_pick : IsRightPick P later depth bx v completion
   right_pick =
-      let next = next_of P x later depth bx here in
-      let long : depth ≤ length bx = omega (arith, next.below) in
+      let first = below P x later depth bx from_depth here in
+      let long : depth ≤ length bx = omega (arith, first) in
       let tail = fixed later (drop (depth + 1) bx) completion in
       let us = set_values P depth bx ++ v ∷ completion in
       let fits_next : Fit (x ∷ later) (single v ∷ tail) (v ∷ completion) =
       next_fits x later (single v) tail (v ∷ completion) player (between_itself v, fit_fixed later (drop (depth + 1) bx) completion fits_later) in
       let set_next : AreSet (x ∷ later) (single v ∷ tail) = ((λ universal. refl), set_fixed later (drop (depth + 1) bx) completion fits_later) in
       let fits : Fit (whole_vars P) (picked depth later bx v completion) us =
-      fit_before (whole_vars P) depth bx (single v ∷ tail) (v ∷ completion) long here.set (subst (λ xs. Fit xs (single v ∷ tail) (v ∷ completion)) here.place.rest_is fits_next) in
+      fit_before (whole_vars P) depth bx (single v ∷ tail) (v ∷ completion) long here.set (subst (λ xs. Fit xs (single v ∷ tail) (v ∷ completion)) from_depth fits_next) in
       let are : AreSet (whole_vars P) (picked depth later bx v completion) =
-      set_before (whole_vars P) depth bx (single v ∷ tail) long here.set (subst (λ xs. AreSet xs (single v ∷ tail)) here.place.rest_is set_next) in
-      let held = subst (λ vs. All (HoldsAt (spread (whole_vars P) vs)) P.urows) (sym (values_before P x later depth bx here player v completion)) completes.rows in
+      set_before (whole_vars P) depth bx (single v ∷ tail) long here.set (subst (λ xs. AreSet xs (single v ∷ tail)) from_depth set_next) in
+      let held = subst (λ vs. All (HoldsAt (spread (whole_vars P) vs)) P.urows) (sym (values_before P x later depth bx from_depth here player v completion)) completes.rows in
       record {
-        value_in_range = in_range P x later depth bx v next within;
+        value_in_range = within;
         completion_fits = fits_later;
         rows = λ k d h. holds_on_box P here.sound (picked depth later bx v completion) us fits are (get_or P.urows k d) (here.sound.urows k d h) (here.sound.urows_universal k d h) (held k d h);
       }

@@ -23,8 +23,8 @@ use Rattle.qm_trees.proofs.CombinationValues.{bounds}
 use Rattle.qm_trees.proofs.LeafLines.{leaf_of_passes}
 use Rattle.qm_trees.proofs.WholeValues.{objective_closes}
 use Rattle.qm_trees.proofs.WholeLeaves.{whole_leaf_passes}
-use Rattle.qm_search.specs.Outcomes.{Secures, Refutes}
-use Rattle.qm_search.specs.Places.{IsSingle}
+use Rattle.qm_search.specs.OutcomeSteps.{Secures, Refutes}
+use Rattle.qm_search.specs.PlaceSteps.{IsSingle}
 use Rattle.qm_search.proofs.WholeBound.{bound_is_objective}
 use Rattle.qm_search.proofs.DeadRows.{refutes_by}
 

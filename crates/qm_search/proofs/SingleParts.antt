@@ -4,8 +4,8 @@ use Rattle.std.proofs.lemmas.Int.{ints}
 use Rattle.std.proofs.lemmas.List.{map-append}
 use Rattle.qm_model.specs.declared.range.Range.{Range}
 use Rattle.qm_model.specs.Boxes.{Cover, FollowOn}
-use Rattle.qm_trees.specs.Ranges.{single}
-use Rattle.qm_search.specs.Parts.{AreSingles, IsBehind}
+use Rattle.qm_model.specs.Ranges.{single}
+use Rattle.qm_search.specs.PartSteps.{AreSingles, IsBehind}
 
 singles_push : (low next : ℤ) (rs : List Range) → AreSingles low next rs → AreSingles low (next +ℤ pos 1) (rs ++ single next ∷ [])
 singles_push low next [] e = (ap single (sym e), ap (λ n. n +ℤ pos 1) e)

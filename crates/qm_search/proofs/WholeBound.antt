@@ -12,9 +12,7 @@ use Rattle.qm_trees.specs.declared.combination.ComboValue.{ComboValue}
 use Rattle.qm_trees.specs.declared.combination.ComboValue.TheVariants.{Bound}
 use Rattle.qm_trees.specs.Evaluation.{value_of}
 use Rattle.qm_trees.proofs.WholeValues.{greatest_objective, objective_value}
-
-ok_value : (v w : ComboValue) → (let x : Checked ComboValue = Ok v in x) ≡ Ok w → v ≡ w
-ok_value v w e = cc
+use Rattle.qm_trees.proofs.Lines.{ok_is}
 
 never_both : (A : Type 0) (leaves : Leaves) (v : ComboValue) → (let x : Checked ComboValue = Err leaves in x) ≡ Ok v → A
 never_both A leaves v e = absurd (cc)
@@ -28,7 +26,7 @@ module _ (P : Problem) (bx : List Range) (sound : IsSound P) (box : IsBox P.vars
   value_is_bound v b e picked =
       let w = quotient (whole (greatest_objective P bx)) (whole P.scale) in
       let is = objective_value P bx sound box in
-      is ∙ sym (ap (λ (u : Fraction). Ok (Bound u)) (picked w (ok_value v (Bound w) (e ∙ is))))
+      is ∙ sym (ap (λ (u : Fraction). Ok (Bound u)) (picked w (ok_is v (Bound w) (e ∙ is))))
 
   pub value_never_leaves : (A : Type 0) (leaves : Leaves) → Err leaves ≡ value_of P true [] bx → A
   value_never_leaves A leaves e = never_both A leaves (Bound (quotient (whole (greatest_objective P bx)) (whole P.scale))) (e ∙ objective_value P bx sound box)
@@ -37,4 +35,4 @@ module _ (P : Problem) (bx : List Range) (sound : IsSound P) (box : IsBox P.vars
   pub bound_is_objective : (b : Fraction) → value_of P true [] bx ≡ Ok (Bound b) → b ≡ quotient (whole (greatest_objective P bx)) (whole P.scale)
   bound_is_objective b e =
       let w = quotient (whole (greatest_objective P bx)) (whole P.scale) in
-      bound_is b w (ok_value (Bound b) (Bound w) (sym e ∙ objective_value P bx sound box))
+      bound_is b w (ok_is (Bound b) (Bound w) (sym e ∙ objective_value P bx sound box))

@@ -1,6 +1,5 @@
-pub mod Outcomes
-pub mod Parts
-pub mod Choices
-pub mod Answers
-pub mod Places
-pub mod Legalities
+pub mod OutcomeSteps
+pub mod PartSteps
+pub mod ChoiceSteps
+pub mod AnswerSteps
+pub mod PlaceSteps

@@ -4,10 +4,10 @@ ghost use Rattle.qm_model.specs.declared.range.Range.{Range};
 ghost use Rattle.qm_model.specs.declared.variable.Player.TheVariants.{All as Universal};
 ghost use Rattle.qm_model.specs.declared.variable.Var.{Var};
 ghost use Rattle.qm_model.specs.Goals.{Goal};
-ghost use Rattle.qm_trees.specs.Ranges.{single};
+ghost use Rattle.qm_model.specs.Ranges.{single};
 ghost use Rattle.qm_trees.specs.RefuteRight.{IsRightPick};
-ghost use Rattle.qm_search.specs.Answers.{IsAnswer};
-ghost use Rattle.qm_search.specs.Outcomes.{IsOutcome, Refutes};
+ghost use Rattle.qm_search.specs.AnswerSteps.{IsRightAnswer};
+ghost use Rattle.qm_search.specs.OutcomeSteps.{IsOutcome, Refutes};
 
 use crate::outcome::Outcome;
 use qm_frac::Frac;
@@ -56,7 +56,7 @@ pub fn legal_answer(
     completion: List<i64>,
     outcome: Outcome,
 ) -> Result<Answer, Memory>
-    ensures { (P : Problem) (x : Var) (later : List Var) (depth : ℕ) (bx : List Range) (first : ℤ) → x.player ≡ Universal → IsRightPick P later depth bx at completion → IsOutcome P later (depth + 1) (slice_set bx depth (single at)) outcome → IfOk result (IsAnswer P x later depth bx first at) }
+    ensures { (P : Problem) (x : Var) (later : List Var) (depth : ℕ) (bx : List Range) (first : ℤ) → x.player ≡ Universal → IsRightPick P later depth bx at completion → IsOutcome P later (depth + 1) (slice_set bx depth (single at)) outcome → IfOk result (IsRightAnswer P (x ∷ later) depth bx first at) }
 {
     match outcome {
         Outcome::Lost(refute) => Ok(Answer::Lost(pick(alloc, at, completion, refute)?)),

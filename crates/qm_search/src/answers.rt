@@ -3,19 +3,19 @@ ghost use Rattle.qm_model.specs.declared.game.Problem.{Problem};
 ghost use Rattle.qm_model.specs.declared.range.Range.{Range};
 ghost use Rattle.qm_model.specs.declared.variable.Player.TheVariants.{All as Universal};
 ghost use Rattle.qm_model.specs.declared.variable.Var.{Var};
-ghost use Rattle.qm_trees.specs.Ranges.{range_at, single};
+ghost use Rattle.qm_model.specs.Ranges.{range_at, single};
 ghost use Rattle.qm_trees.specs.declared.policy.Below.TheOpen as node;
 ghost use Rattle.qm_trees.specs.PolicyJudgement.{below_of, range_of};
-ghost use Rattle.qm_search.specs.Answers.{AreAnswers, IsReply, is_worse, worse_of};
-ghost use Rattle.qm_search.specs.Outcomes.{IsOutcome};
-ghost use Rattle.qm_search.specs.Parts.{IsBehind};
+ghost use Rattle.qm_search.specs.AnswerSteps.{AreAnswers, IsReply, is_worse, worse_of};
+ghost use Rattle.qm_search.specs.OutcomeSteps.{IsOutcome};
+ghost use Rattle.qm_search.specs.PartSteps.{IsBehind};
 
 use crate::answer::Reply;
 use crate::order::is_less;
 use crate::outcome::Outcome;
-use qm_cover::single;
 use qm_frac::Frac;
 use qm_io::Memory;
+use qm_model::single;
 use qm_trees::{Below, Empty, Policy, PolicyPart, Refute};
 use sqlite_items::Items;
 use std::alloc::Global;
@@ -59,7 +59,7 @@ fn worse(worst: Option<Worst>, found: Worst) -> Option<Worst>
 impl Answers {
     /// No value yet.
     pub fn new(alloc: Global) -> Answers
-        ensures { (P : Problem) (x : Var) (later : List Var) (depth : ℕ) (bx : List Range) (first low : ℤ) → low ≤ℤ first → AreAnswers P x later depth bx first low low result }
+        ensures { (P : Problem) (rest : List Var) (depth : ℕ) (bx : List Range) (first low : ℤ) → low ≤ℤ first → AreAnswers P rest depth bx first low low result }
     {
         Answers {
             worst: None,
@@ -69,7 +69,7 @@ impl Answers {
 
     /// The values with one more, and the reply to it.
     pub fn with(self, at: i64, reply: Reply) -> Result<Answers, Memory>
-        ensures { (P : Problem) (x : Var) (later : List Var) (depth : ℕ) (bx : List Range) (first low : ℤ) → AreAnswers P x later depth bx first low at self → IsReply P x later depth bx first at reply → IfOk result (AreAnswers P x later depth bx first low (at +ℤ pos 1)) }
+        ensures { (P : Problem) (rest : List Var) (depth : ℕ) (bx : List Range) (first low : ℤ) → AreAnswers P rest depth bx first low at self → IsReply P rest depth bx first at reply → IfOk result (AreAnswers P rest depth bx first low (at +ℤ pos 1)) }
     {
         let Answers { worst, mut parts } = self;
         match reply {
@@ -95,7 +95,7 @@ impl Answers {
     /// What all the values come to.
     pub fn outcome(self) -> Outcome
         requires { IsSome self.worst }
-        ensures { (P : Problem) (x : Var) (later : List Var) (depth : ℕ) (bx : List Range) (first next : ℤ) → x.player ≡ Universal → AreAnswers P x later depth bx first (range_at bx depth).low next self → IsBehind (range_at bx depth) next → IsOutcome P (x ∷ later) depth bx result }
+        ensures { (P : Problem) (x : Var) (later : List Var) (depth : ℕ) (bx : List Range) (first next : ℤ) → x.player ≡ Universal → AreAnswers P (x ∷ later) depth bx first (range_at bx depth).low next self → IsBehind (range_at bx depth) next → IsOutcome P (x ∷ later) depth bx result }
     {
         let Answers { worst, parts } = self;
         match worst {

@@ -4,12 +4,12 @@ ghost use Rattle.qm_model.specs.declared.game.Problem.{Problem};
 ghost use Rattle.qm_model.specs.Boxes.{whole_box_of};
 ghost use Rattle.qm_model.specs.Endings.{HasEnding};
 ghost use Rattle.qm_model.specs.Plays.{IsPlay, whole_vars};
-ghost use Rattle.qm_search.specs.Outcomes.{IsOutcome};
+ghost use Rattle.qm_search.specs.OutcomeSteps.{IsOutcome};
 
 use crate::outcome::Outcome;
 use crate::walk::best;
 use qm_certfile::Certificate;
-use qm_game::{Game, whole_box};
+use qm_game::{Game, Place, whole_box};
 use qm_io::{List, Memory};
 use qm_legal::{Legality, legal};
 use std::alloc::Global;
@@ -39,12 +39,13 @@ pub fn solve(alloc: Global, game: &Game) -> Result<Certificate, Memory>
     ensures passes { IfOk result (Passes game.now) }
     ensures ending { IfOk result (λ certificate. HasEnding game.now (ending_of certificate)) }
 {
-    let vars = game.problem().vars.as_slice();
+    // that the problem is in order
+    let _problem = game.problem();
     let mut bx = whole_box(alloc, game)?;
     match legal(alloc, game, 0, &bx)? {
         Legality::Illegal(tree) => Ok(Certificate::Empty(tree)),
         Legality::Completion(play) => {
-            let outcome = best(alloc, game, vars, 0, &mut bx, play.as_slice())?;
+            let outcome = best(alloc, Place::at(game, 0), &mut bx, play.as_slice())?;
             Ok(certified(outcome, play))
         }
     }

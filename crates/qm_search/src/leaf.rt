@@ -4,8 +4,8 @@ ghost use Rattle.qm_model.specs.Boxes.{IsBox};
 ghost use Rattle.qm_trees.specs.declared.combination.ComboValue.TheVariants.{Bound};
 ghost use Rattle.qm_trees.specs.declared.refutation.Refute.{Close};
 ghost use Rattle.qm_trees.specs.Evaluation.{value_of};
-ghost use Rattle.qm_search.specs.Outcomes.{IsOutcome};
-ghost use Rattle.qm_search.specs.Places.{IsSingle};
+ghost use Rattle.qm_search.specs.OutcomeSteps.{IsOutcome};
+ghost use Rattle.qm_search.specs.PlaceSteps.{IsSingle};
 
 use crate::outcome::Outcome;
 use qm_combo::value;

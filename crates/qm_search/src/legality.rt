@@ -1,57 +1,52 @@
-ghost use Rattle.std.specs.Prelude.{◌≡◌, ◌↔◌, ◌⊎◌, [], ◌∷◌, ◌<◌, IfOk, IsTrue, drop, length};
-ghost use Rattle.qm_model.specs.declared.variable.Player.TheVariants.{All as Universal};
-ghost use Rattle.qm_model.specs.Plays.{IsWithin};
-ghost use Rattle.qm_search.specs.Legalities.{IsNextLegality};
-ghost use Rattle.qm_search.specs.Places.{IsSearchPlace, first_of};
+ghost use Rattle.std.specs.Prelude.{◌≡◌, ◌+◌, ◌↔◌, ◌⊎◌, [], ◌<◌, IfOk, IsTrue, drop, length, slice_set};
+ghost use Rattle.qm_math.specs.Ranges.{IsBetween};
+ghost use Rattle.qm_model.specs.Ranges.{range_at, single};
+ghost use Rattle.qm_legal.specs.Queries.{IsRightLegality};
+ghost use Rattle.qm_search.specs.PlaceSteps.{IsSearchBox, next_value};
 
-use qm_cover::{range_in, single};
-use qm_game::{Bx, Game, Var};
+use qm_game::{Bx, Game, Place};
 use qm_io::{List, Memory};
 use qm_legal::{Legality, legal};
+use qm_model::{range_in, single};
 use std::alloc::Global;
 
 /// Whether the value goes on as the known completion does: it begins with it, or nothing but the bounds is asked of
 /// the universal player.
-fn is_known(game: &Game, completion: &[i64], value: i64) -> bool
+pub fn is_known(game: &Game, completion: &[i64], value: i64) -> bool
     requires { 0 < length completion.now }
-    ensures { IsTrue result ↔ ((game.now.urows ≡ []) ⊎ (value ≡ first_of completion.now)) }
+    ensures { IsTrue result ↔ ((game.now.urows ≡ []) ⊎ (value ≡ next_value completion.now)) }
 {
     game.problem().urows.is_empty() || value == completion[0]
 }
 
 /// The completion without its first value.
-fn later_values(alloc: Global, completion: &[i64]) -> Result<List<i64>, Memory>
+pub fn later_values(completion: &[i64]) -> &[i64]
     requires { 0 < length completion.now }
-    ensures { IfOk result (λ values. values ≡ drop 1 completion.now) }
+    ensures { result.now ≡ drop 1 completion.now }
 {
-    let mut values = List::new(alloc);
-    values.append(&completion[1..])?;
-    Ok(values)
+    &completion[1..]
+}
+
+/// A list of these values.
+pub fn list_of(alloc: Global, values: &[i64]) -> Result<List<i64>, Memory>
+    ensures { IfOk result (λ list. list ≡ values.now) }
+{
+    let mut list = List::new(alloc);
+    list.append(values)?;
+    Ok(list)
 }
 
 /// Values that complete this value of the next variable, or why no universal play has it. The box stays as it was.
-pub fn legality(
-    alloc: Global,
-    game: &Game,
-    var: &Var,
-    later: &[Var],
-    depth: usize,
-    bx: &mut Bx,
-    completion: &[i64],
-    value: i64,
-) -> Result<Legality, Memory>
-    requires place { IsSearchPlace game.now (var.now ∷ later.now) depth bx.old completion.now }
-    requires player { var.now.player ≡ Universal }
-    requires within { IsWithin var.now value }
-    ensures legality { IfOk result (IsNextLegality game.now depth bx.old (first_of completion.now) value) }
+pub fn legality(alloc: Global, here: Place<'_>, bx: &mut Bx, value: i64) -> Result<Legality, Memory>
+    requires bx { IsSearchBox here.game.now here.depth bx.old }
+    requires some { 0 < length here.rest.now }
+    requires within { IsBetween (range_at bx.old here.depth).low (range_at bx.old here.depth).high value }
+    ensures legality { IfOk result (IsRightLegality here.entry.game.now (here.entry.depth + 1) (slice_set bx.old here.entry.depth (single value))) }
     ensures same { bx.new ≡ bx.old }
 {
-    if is_known(game, completion, value) {
-        return Ok(Legality::Completion(later_values(alloc, completion)?));
-    }
-    let before = range_in(bx.as_slice(), depth);
-    bx.set(depth, single(value));
-    let answer = legal(alloc, game, depth as u32 + 1, bx);
-    bx.set(depth, before);
+    let before = range_in(bx.as_slice(), here.depth);
+    bx.set(here.depth, single(value));
+    let answer = legal(alloc, here.game, here.depth as u32 + 1, bx);
+    bx.set(here.depth, before);
     answer
 }

@@ -1,45 +1,44 @@
-ghost use Rattle.std.specs.Prelude.{◌≡◌, ◌∷◌, ◌+◌, IfOk, slice_set};
-ghost use Rattle.qm_model.specs.Plays.{IsWithin};
+ghost use Rattle.std.specs.Prelude.{◌≡◌, ◌+◌, ◌<◌, IfOk, drop, length, slice_set};
+ghost use Rattle.qm_math.specs.Ranges.{IsBetween};
+ghost use Rattle.qm_model.specs.Ranges.{range_at, single};
 ghost use Rattle.qm_model.specs.declared.variable.Player.TheVariants.{Exists, All as Universal};
-ghost use Rattle.qm_trees.specs.Ranges.{single};
-ghost use Rattle.qm_search.specs.Answers.{IsAnswer};
-ghost use Rattle.qm_search.specs.Outcomes.{IsOutcome};
-ghost use Rattle.qm_search.specs.Places.{Completes, IsSearchBox, IsSearchPlace, first_of};
+ghost use Rattle.qm_legal.specs.SearchSteps.{SetsNext};
+ghost use Rattle.qm_search.specs.AnswerSteps.{IsRightAnswer};
+ghost use Rattle.qm_search.specs.OutcomeSteps.{IsOutcome};
+ghost use Rattle.qm_search.specs.PlaceSteps.{Completes, IsSearchBox, IsSearchPlace, next_value};
 
 use crate::answer::{Answer, Reply, legal_answer};
 use crate::answers::Answers;
 use crate::choices::Choices;
 use crate::leaf::outcome_at_end;
-use crate::legality::legality;
+use crate::legality::{is_known, later_values, legality, list_of};
 use crate::outcome::Outcome;
-use qm_cover::{is_for_all, range_in, single};
-use qm_game::{Bx, Game, Var};
+use qm_game::{Bx, Place};
 use qm_io::Memory;
 use qm_legal::Legality;
+use qm_model::{is_for_all, range_in, single};
 use std::alloc::Global;
 
-/// The outcome where these variables are still to be set, and these values complete those of the universal variables
-/// that are set. The box stays as it was.
+/// The outcome from here on, where these values complete those of the universal variables that are set. The box stays
+/// as it was.
 #[cycle(search)]
 pub fn best(
     alloc: Global,
-    game: &Game,
-    rest: &[Var],
-    depth: usize,
+    here: Place<'_>,
     bx: &mut Bx,
     completion: &[i64],
 ) -> Result<Outcome, Memory>
-    requires { IsSearchPlace game.now rest.now depth bx.old completion.now }
-    ensures outcome { IfOk result (IsOutcome game.now rest.now depth bx.old) }
+    requires { IsSearchPlace here.game.now here.depth bx.old completion.now }
+    ensures outcome { IfOk result (IsOutcome here.entry.game.now here.entry.rest.now here.entry.depth bx.old) }
     ensures same { bx.new ≡ bx.old }
 {
-    match rest.split_first() {
-        None => outcome_at_end(alloc, game, bx),
-        Some((var, later)) => {
+    match here.rest.split_first() {
+        None => outcome_at_end(alloc, here.game, bx),
+        Some((var, _later)) => {
             if is_for_all(var) {
-                worst_answer(alloc, game, var, later, depth, bx, completion)
+                worst_answer(alloc, here, bx, completion)
             } else {
-                best_choice(alloc, game, var, later, depth, bx, completion)
+                best_choice(alloc, here, bx, completion)
             }
         }
     }
@@ -49,24 +48,22 @@ pub fn best(
 #[cycle(search)]
 fn visit(
     alloc: Global,
-    game: &Game,
-    var: &Var,
-    later: &[Var],
-    depth: usize,
+    here: Place<'_>,
     bx: &mut Bx,
     completion: &[i64],
     value: i64,
 ) -> Result<Outcome, Memory>
-    requires here { IsSearchBox game.now (var.now ∷ later.now) depth bx.old }
-    requires within { IsWithin var.now value }
-    requires completes { Completes game.now (depth + 1) (slice_set bx.old depth (single value)) completion.now }
-    ensures outcome { IfOk result (IsOutcome game.now later.now (depth + 1) (slice_set bx.old depth (single value))) }
+    requires bx { IsSearchBox here.game.now here.depth bx.old }
+    requires some { 0 < length here.rest.now }
+    requires within { IsBetween (range_at bx.old here.depth).low (range_at bx.old here.depth).high value }
+    requires completes { Completes here.game.now (here.depth + 1) (slice_set bx.old here.depth (single value)) completion.now }
+    ensures outcome { IfOk result (IsOutcome here.entry.game.now (drop 1 here.entry.rest.now) (here.entry.depth + 1) (slice_set bx.old here.entry.depth (single value))) }
     ensures same { bx.new ≡ bx.old }
 {
-    let before = range_in(bx.as_slice(), depth);
-    bx.set(depth, single(value));
-    let outcome = best(alloc, game, later, depth + 1, bx, completion);
-    bx.set(depth, before);
+    let before = range_in(bx.as_slice(), here.depth);
+    bx.set(here.depth, single(value));
+    let outcome = best(alloc, here.behind(), bx, completion);
+    bx.set(here.depth, before);
     outcome
 }
 
@@ -74,21 +71,19 @@ fn visit(
 #[cycle(search)]
 fn best_choice(
     alloc: Global,
-    game: &Game,
-    var: &Var,
-    later: &[Var],
-    depth: usize,
+    here: Place<'_>,
     bx: &mut Bx,
     completion: &[i64],
 ) -> Result<Outcome, Memory>
-    requires place { IsSearchPlace game.now (var.now ∷ later.now) depth bx.old completion.now }
-    requires player { var.now.player ≡ Exists }
-    ensures outcome { IfOk result (IsOutcome game.now (var.now ∷ later.now) depth bx.old) }
+    requires place { IsSearchPlace here.game.now here.depth bx.old completion.now }
+    requires player { SetsNext Exists here.rest.now }
+    ensures outcome { IfOk result (IsOutcome here.entry.game.now here.entry.rest.now here.entry.depth bx.old) }
     ensures same { bx.new ≡ bx.old }
 {
+    let covered = range_in(bx.as_slice(), here.depth);
     let mut choices = Choices::new(alloc);
-    for choice in var.low..=var.high {
-        let next = visit(alloc, game, var, later, depth, bx, completion, choice)?;
+    for choice in covered.low..=covered.high {
+        let next = visit(alloc, here, bx, completion, choice)?;
         choices = choices.with(choice, next)?;
     }
     choices.outcome(alloc)
@@ -98,25 +93,26 @@ fn best_choice(
 #[cycle(search)]
 fn answer_to(
     alloc: Global,
-    game: &Game,
-    var: &Var,
-    later: &[Var],
-    depth: usize,
+    here: Place<'_>,
     bx: &mut Bx,
     completion: &[i64],
     value: i64,
 ) -> Result<Answer, Memory>
-    requires place { IsSearchPlace game.now (var.now ∷ later.now) depth bx.old completion.now }
-    requires player { var.now.player ≡ Universal }
-    requires within { IsWithin var.now value }
-    ensures answer { IfOk result (IsAnswer game.now var.now later.now depth bx.old (first_of completion.now) value) }
+    requires place { IsSearchPlace here.game.now here.depth bx.old completion.now }
+    requires player { SetsNext Universal here.rest.now }
+    requires within { IsBetween (range_at bx.old here.depth).low (range_at bx.old here.depth).high value }
+    ensures answer { IfOk result (IsRightAnswer here.entry.game.now here.entry.rest.now here.entry.depth bx.old (next_value completion.now) value) }
     ensures same { bx.new ≡ bx.old }
 {
-    match legality(alloc, game, var, later, depth, bx, completion, value)? {
+    if is_known(here.game, completion, value) {
+        let later = later_values(completion);
+        let outcome = visit(alloc, here, bx, later, value)?;
+        return legal_answer(alloc, value, list_of(alloc, later)?, outcome);
+    }
+    match legality(alloc, here, bx, value)? {
         Legality::Illegal(tree) => Ok(Answer::Kept(Reply::Illegal(tree))),
         Legality::Completion(values) => {
-            let with_it = values.as_slice();
-            let outcome = visit(alloc, game, var, later, depth, bx, with_it, value)?;
+            let outcome = visit(alloc, here, bx, values.as_slice(), value)?;
             legal_answer(alloc, value, values, outcome)
         }
     }
@@ -126,21 +122,19 @@ fn answer_to(
 #[cycle(search)]
 fn worst_answer(
     alloc: Global,
-    game: &Game,
-    var: &Var,
-    later: &[Var],
-    depth: usize,
+    here: Place<'_>,
     bx: &mut Bx,
     completion: &[i64],
 ) -> Result<Outcome, Memory>
-    requires place { IsSearchPlace game.now (var.now ∷ later.now) depth bx.old completion.now }
-    requires player { var.now.player ≡ Universal }
-    ensures outcome { IfOk result (IsOutcome game.now (var.now ∷ later.now) depth bx.old) }
+    requires place { IsSearchPlace here.game.now here.depth bx.old completion.now }
+    requires player { SetsNext Universal here.rest.now }
+    ensures outcome { IfOk result (IsOutcome here.entry.game.now here.entry.rest.now here.entry.depth bx.old) }
     ensures same { bx.new ≡ bx.old }
 {
+    let covered = range_in(bx.as_slice(), here.depth);
     let mut answers = Answers::new(alloc);
-    for value in var.low..=var.high {
-        match answer_to(alloc, game, var, later, depth, bx, completion, value)? {
+    for value in covered.low..=covered.high {
+        match answer_to(alloc, here, bx, completion, value)? {
             Answer::Lost(refute) => return Ok(Outcome::Lost(refute)),
             Answer::Kept(reply) => answers = answers.with(value, reply)?,
         }

@@ -1,8 +1,7 @@
 -- The point where no row is left: it is in the relaxation, and the objective comes to the value there.
-use Rattle.std.proofs.Common.{◌≡◌, ◌≢◌, ◌∙◌, refl, sym, ap, subst, ℕ, zero, suc, ◌+◌, ◌*◌, ◌<◌, List, [], ◌∷◌, ◌++◌, length, get_or, map, drop, arith, All, Ok, Err, ℤ, pos, ◌≤ℤ◌, unsigned_abs}
+use Rattle.std.proofs.Common.{◌≡◌, ◌∙◌, refl, sym, ap, subst, ℕ, zero, suc, ◌+◌, ◌*◌, ◌<◌, List, [], ◌∷◌, ◌++◌, length, get_or, map, drop, arith, All, Ok, Err, ℤ, pos, ◌≤ℤ◌}
 use Rattle.std.specs.List.{AllZip}
-use Rattle.std.proofs.lemmas.Int.{ints}
-use Rattle.std.proofs.lemmas.List.Elements.{All-cons, All-drop, All-head, All-nil, All-tail}
+use Rattle.std.proofs.lemmas.List.Elements.{All-cons, All-drop, All-head, All-nil, All-tail, length_all_zip}
 use Rattle.qm_math.specs.Fraction.{Fraction, HasPositiveDen, IsAtMost, IsSame, whole}
 use Rattle.qm_math.specs.Arithmetic.{difference_of, quotient_of, sum_of}
 use Rattle.qm_math.proofs.Polynomials.{number, ◌⊕◌, minus}
@@ -11,11 +10,14 @@ use Rattle.qm_math.proofs.FractionLinear.{same_given}
 use Rattle.qm_math.proofs.Compare.{at_most_trans}
 use Rattle.qm_math.proofs.FractionOrder.{at_most-same}
 use Rattle.qm_math.proofs.FractionLaws.{quotient_of-same, quotient_of_den, same_refl, same_sym, same_trans, whole_den}
+use Rattle.qm_math.proofs.Magnitudes.{unsigned_abs-one_le, nonzero-one_le}
+use Rattle.qm_math.proofs.Lists.{all_left, all_right}
 use Rattle.qm_frac.specs.Checked.{Checked, added, divided}
-use Rattle.qm_frac.proofs.CheckedLaws.{IsFrac-added, IsFrac-divided, added-value}
+use Rattle.qm_frac.proofs.CheckedLaws.{IsFrac-added, IsFrac-divided, added-value, divided-value}
 use Rattle.qm_model.specs.declared.range.Range.{Range}
 use Rattle.qm_model.specs.declared.row.Row.{Row}
 use Rattle.qm_model.specs.declared.game.Problem.{Problem}
+use Rattle.qm_model.proofs.BoxForms.{no_range}
 use Rattle.qm_tableau.specs.declared.choice.Choice.TheVariants as choice
 use Rattle.qm_tableau.specs.Tables.{Table, entry_at, entry_of}
 use Rattle.qm_tableau.specs.Quantities.{Quantity, bound_quantities, high_quantity, low_quantity, objective_quantity, quantities, slack_quantity}
@@ -23,14 +25,14 @@ use Rattle.qm_tableau.specs.Columns.{affine_value}
 use Rattle.qm_tableau.specs.Rule.{chosen}
 use Rattle.qm_tableau.specs.Good.{ComeTo, IsGood, IsPoint, quantity_value, values_at}
 use Rattle.qm_tableau.proofs.Constants.{affine_den, constant_left, nothing, nothing_den, nothing_long, nothing_zero, quantity_den, values_den}
-use Rattle.qm_tableau.proofs.Exactness.{entry_den, quotient}
+use Rattle.qm_tableau.proofs.Exactness.{entry_den}
 use Rattle.qm_trees.specs.BoxPoints.{objective_of}
 use Rattle.qm_simplex.specs.declared.answers.LeavePlace.{LeavePlace}
 use Rattle.qm_simplex.specs.declared.answers.LeavePlace.TheVariants as place
 use Rattle.qm_simplex.specs.Relaxation.{IsInRelaxation}
 use Rattle.qm_simplex.specs.Stops.{Located, located, point_at, then_at, value_at}
 use Rattle.qm_simplex.proofs.ClosingEntries.{IsNonnegative, done_rows}
-use Rattle.qm_simplex.proofs.PointValues.{IsSomeAt, box_of_bounds, low_value, no_range, objective_sum, objective_value, quantities_same, rows_hold}
+use Rattle.qm_simplex.proofs.PointValues.{IsSomeAt, box_of_bounds, low_value, objective_sum, objective_value, quantities_same, rows_hold}
 
 -- ---- steps that have a value
 pub then_at-ok : {A B : Type 0} (first : Located A) (f : A → Located B) (r : B) → then_at first f ≡ Ok r → (x : A) × (first ≡ Ok x) × (f x ≡ Ok r)
@@ -94,14 +96,6 @@ unmapped : {X Y : Type 0} (R : Y → Type 0) (f : X → Y) (xs : List X) → All
 unmapped R f [] h = All-nil (λ x. R (f x))
 unmapped R f (x ∷ xs) h = All-cons (λ x. R (f x)) x xs (All-head R (f x) (map f xs) h) (unmapped R f xs (All-tail R (f x) (map f xs) h))
 
-first_part : {X : Type 0} (R : X → Type 0) (xs ys : List X) → All R (xs ++ ys) → All R xs
-first_part R [] ys h = All-nil R
-first_part R (x ∷ xs) ys h = All-cons R x xs (All-head R x (xs ++ ys) h) (first_part R xs ys (All-tail R x (xs ++ ys) h))
-
-second_part : {X : Type 0} (R : X → Type 0) (xs ys : List X) → All R (xs ++ ys) → All R ys
-second_part R [] ys h = h
-second_part R (x ∷ xs) ys h = second_part R xs ys (All-tail R x (xs ++ ys) h)
-
 -- ---- the row of x - low
 lows_at : (V : Quantity → Fraction) (var j : ℕ) (bx : List Range) (more : List Quantity) (d : Fraction) → j < length bx
     → get_or (map V (bound_quantities var bx ++ more)) (2 * j + 1) d ≡ V (low_quantity (var + j) (get_or bx j no_range))
@@ -140,10 +134,6 @@ constant_at (row ∷ rows) (v ∷ vs) zero h = h.0
 constant_at (row ∷ rows) (v ∷ vs) (suc i) h = constant_at rows vs i h.1
 
 -- ---- the answered point
-added_same : (a b r : Fraction) → added a b ≡ Ok r → IsSame r (sum_of a b)
-unfolding sum_of
-added_same a b r h = added-value a b r h
-
 back_again : (x low t p : Fraction) → 0 < x.den → 0 < low.den → 0 < t.den → 0 < p.den → IsSame x (sum_of low t) → IsSame (difference_of p low) t → IsSame x p
 back_again x low t p xd ld td pd e f =
     same_given (x ∷ low ∷ t ∷ p ∷ []) x0 x3 ((number (pos 1), x0, x1 ⊕ x2) ∷ (number (pos 1), x2, x3 ⊕ minus x1) ∷ []) (xd, (ld, (td, (pd, tt)))) (e, (sym f, tt)) refl
@@ -169,7 +159,7 @@ module _ (rows : List (List Fraction)) (rd : All (λ row. All HasPositiveDen row
       let ys = rest.0 in
       let here : var + 0 ≡ var = omega arith in
       let apart : IsSame (difference_of p low) t = subst (λ (n : ℕ). IsSame (difference_of p low) (entry_at rows (2 * n + 2) 0)) here (at 0 (omega arith)) in
-      let same : IsSame x p = back_again x low t p xd (whole_den r.low) td (All-head HasPositiveDen p ps d) (added_same low t x is) apart in
+      let same : IsSame x p = back_again x low t p xd (whole_den r.low) td (All-head HasPositiveDen p ps d) (added-value low t x is) apart in
       let later = point_is (suc var) bx ys ps rest.1 (omega (arith, count)) (All-tail HasPositiveDen p ps d) (λ j inside.
       (let next : var + suc j ≡ suc var + j = omega arith in
       subst (λ (n : ℕ). IsSame (difference_of (entry_of ps j) (whole (get_or bx j no_range).low)) (entry_at rows (2 * n + 2) 0)) next (at (suc j) (omega (arith, inside))))) in
@@ -177,18 +167,6 @@ module _ (rows : List (List Fraction)) (rd : All (λ row. All HasPositiveDen row
       (All-cons HasPositiveDen x ys xd later.0, (same, later.1))
 
 -- ---- the point in the relaxation
-abs_positive : (n : ℤ) → pos 1 ≤ℤ n → 0 < unsigned_abs n
-abs_positive n h = omega (arith, ints, h)
-
-not_zero : (n : ℤ) → pos 1 ≤ℤ n → n ≢ pos 0
-not_zero n h e = omega (arith, ints, e, h)
-
-all_long : (xs ys : List Fraction) → AllZip IsSame xs ys → length xs ≡ length ys
-all_long [] [] e = refl
-all_long [] (y ∷ ys) e = absurd e
-all_long (x ∷ xs) [] e = absurd e
-all_long (x ∷ xs) (y ∷ ys) e = ap suc (all_long xs ys e.1)
-
 -- the point is in the relaxation, and the objective there is the value, the constant of its row over the scale
 pub record IsBestPoint (P : Problem) (cuts : List Row) (bx : List Range) (t : Table) (value : Fraction) (point : List Fraction) : Type 0 where
   pub feasible : IsInRelaxation P cuts bx point
@@ -219,7 +197,7 @@ module _ (P : Problem) (cuts : List Row) (bx : List Range) (t : Table) (scale : 
       (same_sym q (difference_of (entry_of p j) (whole r.low)) (low_value j r p (omega (arith, inside, count)) pd)) there)) in
       let is = point_is t.rows gt.positive 0 bx xs p is_point p_is.count pd lows in
       let d = is.0 in
-      let count : length xs ≡ length bx = all_long xs p is.1 ∙ p_is.count in
+      let count : length xs ≡ length bx = length_all_zip IsSame xs p is.1 ∙ p_is.count in
       let all_constants : AllZip IsConstant t.rows (values_at P cuts bx xs) =
       moved_constants t.rows vs (values_at P cuts bx xs) p_constants (quantities_same xs p (quantities P cuts bx) is.1) vd in
       let others = bound_quantities 0 bx ++ slacks P cuts in
@@ -227,25 +205,25 @@ module _ (P : Problem) (cuts : List Row) (bx : List Range) (t : Table) (scale : 
       let some : All (IsSomeAt xs) others =
       unmapped IsSome (quantity_value xs) others
       (some_values (drop 1 t.rows) (map (quantity_value xs) others) (All-drop (λ (row : List Fraction). All HasPositiveDen row) 1 t.rows gt.positive) parts.1 (done_rows t done)) in
-      let some_slacks : All (IsSomeAt xs) (slacks P cuts) = second_part (IsSomeAt xs) (bound_quantities 0 bx) (slacks P cuts) some in
+      let some_slacks : All (IsSomeAt xs) (slacks P cuts) = all_right (IsSomeAt xs) (bound_quantities 0 bx) (slacks P cuts) some in
       let later = map slack_quantity P.urows ++ map slack_quantity cuts in
-      let some_later : All (IsSomeAt xs) later = second_part (IsSomeAt xs) (map slack_quantity P.rows) later some_slacks in
+      let some_later : All (IsSomeAt xs) later = all_right (IsSomeAt xs) (map slack_quantity P.rows) later some_slacks in
       let a = entry_at t.rows 0 0 in
       let ad = entry_at_den t.rows 0 0 gt.positive in
       let is_quotient : divided a (whole P.scale) ≡ Ok value = located-ok place.Value (divided a (whole P.scale)) value is_value in
-      let exact : IsSame value (quotient_of a (whole P.scale)) = quotient a (whole P.scale) value is_quotient in
+      let exact : IsSame value (quotient_of a (whole P.scale)) = divided-value a (whole P.scale) value is_quotient in
       let s = objective_sum P xs in
       let q = quantity_value xs (objective_quantity P) in
       let sum_is : IsSame s a = same_trans s q a (quantity_den xs (objective_quantity P) d) (same_sym q s (objective_value P xs)) parts.0 in
       record {
         feasible = record {
-          inside = box_of_bounds bx xs count d (first_part (IsSomeAt xs) (bound_quantities 0 bx) (slacks P cuts) some);
-          rows = rows_hold xs P.rows d (first_part (IsSomeAt xs) (map slack_quantity P.rows) later some_slacks);
-          urows = rows_hold xs P.urows d (first_part (IsSomeAt xs) (map slack_quantity P.urows) (map slack_quantity cuts) some_later);
-          extra = rows_hold xs cuts d (second_part (IsSomeAt xs) (map slack_quantity P.urows) (map slack_quantity cuts) some_later);
+          inside = box_of_bounds bx xs count d (all_left (IsSomeAt xs) (bound_quantities 0 bx) (slacks P cuts) some);
+          rows = rows_hold xs P.rows d (all_left (IsSomeAt xs) (map slack_quantity P.rows) later some_slacks);
+          urows = rows_hold xs P.urows d (all_left (IsSomeAt xs) (map slack_quantity P.urows) (map slack_quantity cuts) some_later);
+          extra = rows_hold xs cuts d (all_right (IsSomeAt xs) (map slack_quantity P.urows) (map slack_quantity cuts) some_later);
         };
-        positive = (IsFrac-divided a (whole P.scale) value ad (abs_positive P.scale scale) is_quotient).positive;
+        positive = (IsFrac-divided a (whole P.scale) value ad (unsigned_abs-one_le P.scale scale) is_quotient).positive;
         exact = exact;
-        reached = same_trans (quotient_of s (whole P.scale)) (quotient_of a (whole P.scale)) value (quotient_of_den a (whole P.scale) ad (not_zero P.scale scale))
+        reached = same_trans (quotient_of s (whole P.scale)) (quotient_of a (whole P.scale)) value (quotient_of_den a (whole P.scale) ad (nonzero-one_le P.scale scale))
             (quotient_of-same s (whole P.scale) a (whole P.scale) sum_is (same_refl (whole P.scale))) (same_sym value (quotient_of a (whole P.scale)) exact);
       }

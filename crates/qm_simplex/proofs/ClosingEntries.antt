@@ -1,5 +1,5 @@
 -- The multipliers of the slacks make entries of a combination.
-use Rattle.std.proofs.Common.{◌≡◌, refl, sym, ap, subst, ℕ, zero, suc, ◌+◌, ◌-◌, ◌<◌, ◌≤◌, ⊎_elim, Bool, true, false, List, [], ◌∷◌, ◌++◌, length, drop, arith, All, Option, Some, None, Ok, ℤ, pos, ◌<ℤ◌, ◌≤ℤ◌, if◌then◌else◌, int_lt, nat_lt}
+use Rattle.std.proofs.Common.{◌≡◌, refl, sym, ap, subst, ℕ, zero, suc, ◌+◌, ◌-◌, ◌<◌, ◌≤◌, ⊎_elim, Bool, true, false, List, [], ◌∷◌, ◌++◌, length, drop, arith, All, Option, Some, None, Ok, ℤ, pos, ◌<ℤ◌, if◌then◌else◌, int_lt, nat_lt}
 use Rattle.std.specs.Prelude.{◌==◌}
 use Rattle.std.specs.Ordering.{int_eq}
 use Rattle.std.proofs.lemmas.Int.{ints}
@@ -31,10 +31,10 @@ use Rattle.qm_simplex.specs.Multipliers.{closing_entries, entries_below, entry_f
 abbrev pub IsBehind : RowId → Entry → Type 0
 IsBehind row e = IsBefore e.row row
 
-pub one_more : (es : List Entry) (f : Entry) → AreEntries es → All (IsBehind f.row) es → IsPositive f → AreEntries (es ++ f ∷ [])
-one_more [] f are before more = more
-one_more (e ∷ []) f are before more = (are, All-head (IsBehind f.row) e [] before, more)
-one_more (e ∷ g ∷ es) f are before more = (are.0, are.1, one_more (g ∷ es) f are.2 (All-tail (IsBehind f.row) e (g ∷ es) before) more)
+pub entries_with_last : (es : List Entry) (f : Entry) → AreEntries es → All (IsBehind f.row) es → IsPositive f → AreEntries (es ++ f ∷ [])
+entries_with_last [] f are before more = more
+entries_with_last (e ∷ []) f are before more = (are, All-head (IsBehind f.row) e [] before, more)
+entries_with_last (e ∷ g ∷ es) f are before more = (are.0, are.1, entries_with_last (g ∷ es) f are.2 (All-tail (IsBehind f.row) e (g ∷ es) before) more)
 
 -- ---- the names of slacks come one after the other
 later : (rows urows m n : ℕ) → m < n → (a b c d : Bool) → nat_lt m rows ≡ a → nat_lt n rows ≡ b → nat_lt (m - rows) urows ≡ c → nat_lt (n - rows) urows ≡ d
@@ -83,7 +83,7 @@ module _ (name : ℕ → RowId) (by : ℕ → Fraction) (some : (n : ℕ) → Is
           nothing_more [] are = are
           nothing_more (e ∷ []) are = are
           nothing_more (e ∷ f ∷ es) are = (are.0, are.1, nothing_more (f ∷ es) are.2)
-      by_test false e = one_more es (record { row = name n; by = by n }) are before ((some n).0, above_zero (by n) (some n).1 e)
+      by_test false e = entries_with_last es (record { row = name n; by = by n }) are before ((some n).0, above_zero (by n) (some n).1 e)
 
   pub are_entries : (n : ℕ) → AreEntries (entries_below name by n)
   are_entries zero = tt
@@ -181,9 +181,6 @@ none_positive rows leaving (t ∷ ts) k h = by_test (int_lt (pos 0) t.num) refl 
     by_test false e later g = All-cons IsNone t ts (not_positive t e) (later g)
 
 -- ---- what the choice says
-le_of_test : (a b : ℤ) → int_lt a b ≡ false → b ≤ℤ a
-le_of_test a b e = grind (arith, ints)
-
 -- the row that can't be raised: its constant is negative and no other number positive
 pub record IsVoidRow (t : Table) (r : ℕ) : Type 0 where
   pub from : 1 ≤ r

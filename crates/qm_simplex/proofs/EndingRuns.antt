@@ -16,9 +16,9 @@ use Rattle.qm_simplex.specs.Stops.{Answer, IsRunFrom, after_choice, after_pivot}
 use Rattle.qm_simplex.proofs.ShortRuns.{few_pivots}
 
 -- one more pivot at the end of a run
-pub one_more : (t last u : Table) (ps : List Pivot) (p : Pivot) → Leads t ps last → chosen last ≡ Ok (choice.Pivot p.0 p.1) → pivoted last p.0 p.1 ≡ Ok u → Leads t (ps ++ p ∷ []) u
-one_more t last u [] p h is there = subst (λ (x : Table). Leads x (p ∷ []) u) (sym h) (is, u, there, refl)
-one_more t last u (q ∷ ps) p h is there = (h.0, h.1, h.2, one_more h.1 last u ps p h.3 is there)
+pub pivots_lead_on : (t last u : Table) (ps : List Pivot) (p : Pivot) → Leads t ps last → chosen last ≡ Ok (choice.Pivot p.0 p.1) → pivoted last p.0 p.1 ≡ Ok u → Leads t (ps ++ p ∷ []) u
+pivots_lead_on t last u [] p h is there = subst (λ (x : Table). Leads x (p ∷ []) u) (sym h) (is, u, there, refl)
+pivots_lead_on t last u (q ∷ ps) p h is there = (h.0, h.1, h.2, pivots_lead_on h.1 last u ps p h.3 is there)
 
 -- the rule names this pivot, and it doesn't leave
 record GoesOn (t : Table) (named : Placed Choice) : Type 0 where
@@ -56,7 +56,7 @@ module _ (P : Problem) (cuts : List Row) (bx : List Range) (t : Table) where
       (λ (goes : GoesOn far.last (chosen far.last)). inr (record {
         pivots = far.pivots ++ goes.pivot ∷ [];
         last = goes.after;
-        leads = one_more t far.last goes.after far.pivots goes.pivot far.leads goes.is goes.there;
+        leads = pivots_lead_on t far.last goes.after far.pivots goes.pivot far.leads goes.is goes.there;
         count = omega (arith, long (goes.pivot ∷ []), count);
       })) (stops_or_goes_on P cuts bx far.pivots far.last (chosen far.last))
 

@@ -14,7 +14,7 @@ use Rattle.qm_math.proofs.FractionRing.{same_by_ring}
 use Rattle.qm_math.proofs.FractionLinear.{at_most_given, below_given, same_given}
 use Rattle.qm_math.proofs.Compare.{at_most_both, at_most_or_below, at_most_trans}
 use Rattle.qm_math.proofs.FractionOrder.{at_most-same, at_most_refl, product_of-at_most}
-use Rattle.qm_math.proofs.FractionLaws.{difference_of_den, one-product_of, product_of_den, same_sym, same_trans, sum_of_den, whole_den, zero-sum_of}
+use Rattle.qm_math.proofs.FractionLaws.{difference_of_den, one-product_of, product_of_den, same_sym, same_trans, sum_of_den, whole_den, zero-sum_of, whole_quotient_den}
 use Rattle.qm_math.proofs.Totals.{append_step}
 use Rattle.qm_model.specs.declared.range.Range.{Range}
 use Rattle.qm_model.specs.declared.row.Row.{Row}
@@ -32,7 +32,7 @@ use Rattle.qm_tableau.proofs.Exactness.{entry_den}
 use Rattle.qm_trees.specs.Entries.{Weighted, weighted_rows}
 use Rattle.qm_trees.specs.Evaluation.{bound_of, combined_coefficient, least_combined, least_end_by, least_form, right_side}
 use Rattle.qm_trees.specs.BoxPoints.{HoldsAt, IsInBox, form_of, objective_of}
-use Rattle.qm_trees.proofs.CombinationSound.{combined_coefficient_den, combined_right, combined_right_den, combined_row_at, combined_row_at_den, form_of-difference, form_of-nothing, least_combined_den, objective-at_most, objective_den, quotient_of-at_most, right_side_den, whole_quotient_den}
+use Rattle.qm_trees.proofs.CombinationSound.{combined_coefficient_den, combined_right, combined_right_den, combined_row_at, combined_row_at_den, form_of-difference, form_of-nothing, least_combined_den, objective-at_most, objective_den, quotient_of-at_most, right_side_den}
 use Rattle.qm_simplex.specs.declared.answers.LpEnd.{LpEnd}
 use Rattle.qm_simplex.specs.declared.answers.LpEnd.TheVariants.{Best}
 use Rattle.qm_simplex.specs.Multipliers.{closing_combination, closing_entries, multiplier, slack_rows, slacks_start}
@@ -97,12 +97,12 @@ split_value P cuts bx V =
     ∙ ap (λ (vs : List Fraction). map V (bound_quantities 0 bx) ++ vs) (ap (map V) (all_slacks P cuts) ∙ mapped_twice V (slack_rows P cuts))
 
 -- ---- the point of the box where a form is least
-ends : (ℕ → Fraction) → ℕ → List Range → List Fraction
-ends k var [] = []
-ends k var (r ∷ bx) = whole (least_end_by (k var).num r) ∷ ends k (suc var) bx
+least_ends : (ℕ → Fraction) → ℕ → List Range → List Fraction
+least_ends k var [] = []
+least_ends k var (r ∷ bx) = whole (least_end_by (k var).num r) ∷ least_ends k (suc var) bx
 
-least_at_ends : (k : ℕ → Fraction) (var : ℕ) (bx : List Range) → least_form k var bx ≡ form_of k var (ends k var bx)
-unfolding ends
+least_at_ends : (k : ℕ → Fraction) (var : ℕ) (bx : List Range) → least_form k var bx ≡ form_of k var (least_ends k var bx)
+unfolding least_ends
 least_at_ends k var [] = refl
 least_at_ends k var (r ∷ bx) = ap (sum_of (product_of (k var) (whole (least_end_by (k var).num r)))) (least_at_ends k (suc var) bx)
 
@@ -116,8 +116,8 @@ end_within : (z : ℤ) (r : Range) → (IsEmptyRange r → ⊥) → IsWithin (wh
 end_within (pos n) r full = (at_most_refl (whole r.low), full_range r full)
 end_within (negsuc n) r full = (full_range r full, at_most_refl (whole r.high))
 
-ends_inside : (k : ℕ → Fraction) (var : ℕ) (bx : List Range) → (Any IsEmptyRange bx → ⊥) → IsInBox bx (ends k var bx)
-unfolding ends
+ends_inside : (k : ℕ → Fraction) (var : ℕ) (bx : List Range) → (Any IsEmptyRange bx → ⊥) → IsInBox bx (least_ends k var bx)
+unfolding least_ends
 ends_inside k var [] full = tt
 ends_inside k var (r ∷ bx) full = (
   whole_den (least_end_by (k var).num r),
@@ -245,7 +245,7 @@ void_end P cuts bx t r full gt chosen_void =
     let vs = weighted_rows P cuts (closing_entries P cuts bx t r) in
     let vs_dens = dens P cuts bx t gt r is.row apart some in
     let k = combined_coefficient P false vs in
-    let xs = ends k 0 bx in
+    let xs = least_ends k 0 bx in
     let within : IsInBox bx xs = ends_inside k 0 bx full in
     let d = box_den bx xs within in
     let f = form_of (combined_row_at vs) 0 xs in
@@ -302,7 +302,7 @@ module _ (P : Problem) (cuts : List Row) (bx : List Range) (t : Table) (sound : 
   gap_at_most =
       let apart = first_apart P cuts bx t gt in
       let k = combined_coefficient P true us in
-      let xs = ends k 0 bx in
+      let xs = least_ends k 0 bx in
       let within : IsInBox bx xs = ends_inside k 0 bx full in
       let d = box_den bx xs within in
       let f = form_of (combined_row_at us) 0 xs in

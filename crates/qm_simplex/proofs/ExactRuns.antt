@@ -1,6 +1,7 @@
 -- Runs in checked and in unbounded fractions.
 use Rattle.std.proofs.Common.{◌≡◌, refl, subst, suc, List, [], ◌∷◌, length, All, Ok}
 use Rattle.qm_math.specs.Fraction.{HasPositiveDen}
+use Rattle.qm_math.proofs.Magnitudes.{unsigned_abs-above_zero}
 use Rattle.qm_tableau.specs.declared.choice.Choice.{Choice}
 use Rattle.qm_tableau.specs.declared.choice.Choice.TheVariants as choice
 use Rattle.qm_tableau.specs.Tables.{Table, entry_of, row_at}
@@ -12,7 +13,7 @@ use Rattle.qm_tableau.proofs.PivotGood.{pivoted_positive}
 use Rattle.qm_simplex.specs.Exact.{LeadsExactly, exact_choice}
 use Rattle.qm_simplex.specs.Runs.{Leads, Pivot}
 use Rattle.qm_simplex.proofs.SameChoice.{choice_same}
-use Rattle.qm_simplex.proofs.SameTables.{exact_positive, pivoted_width, pivots_same, rows_refl, same_entry_above, some_above}
+use Rattle.qm_simplex.proofs.SameTables.{exact_positive, pivoted_width, pivots_same, rows_refl, same_entry_above}
 
 -- a run, and the exact run from a tableau with the same numbers
 run_from : (t u last : Table) (pivots : List Pivot) → AreSameTables t u → All (λ row. length row ≡ suc (length t.columns)) t.rows → All (λ row. All HasPositiveDen row) t.rows
@@ -24,7 +25,7 @@ run_from t u last (p ∷ ps) e w td ud h =
     let r = p.0 in
     let c = p.1 in
     let is = chosen_is t r c td h.0 in
-    let some = some_above (entry_of (row_at t.rows r) c).num is.entry in
+    let some = unsigned_abs-above_zero (entry_of (row_at t.rows r) c).num is.entry in
     let other = same_entry_above t.rows u.rows r c e.rows td ud is.entry in
     let after = pivots_same t u h.1 r c is.row some w td e h.2 in
     let exact = pivot_exact t h.1 r c is.row some w td h.2 in

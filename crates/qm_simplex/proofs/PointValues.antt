@@ -15,6 +15,7 @@ use Rattle.qm_model.specs.declared.range.Range.{Range}
 use Rattle.qm_model.specs.declared.row.Row.{Row}
 use Rattle.qm_model.specs.declared.game.Problem.{Problem}
 use Rattle.qm_model.specs.Linear.{coefficient}
+use Rattle.qm_model.proofs.BoxForms.{no_range}
 use Rattle.qm_tableau.specs.Tables.{entry_of}
 use Rattle.qm_tableau.specs.Quantities.{Quantity, bound_quantities, coefficient_in, high_quantity, low_quantity, objective_quantity, slack_quantity}
 use Rattle.qm_tableau.specs.Good.{linear_value, quantity_value}
@@ -108,9 +109,6 @@ rows_hold xs (row ∷ rows) d h =
     (rows_hold xs rows d (All-tail (IsSomeAt xs) (slack_quantity row) (map slack_quantity rows) h))
 
 -- ---- the two distances from the ends of a range
-pub no_range : Range
-no_range = record { low = pos 0; high = pos 0 }
-
 pub high_value : (j : ℕ) (r : Range) (xs : List Fraction) → j < length xs → All HasPositiveDen xs
     → IsSame (quantity_value xs (high_quantity j r)) (difference_of (whole r.high) (entry_of xs j))
 unfolding bound_quantity offset

@@ -21,7 +21,7 @@ use Rattle.qm_simplex.specs.declared.answers.LpFault.TheVariants as fault
 use Rattle.qm_simplex.specs.declared.run.Finished.{Finished}
 use Rattle.qm_simplex.specs.Ends.{IsRightEnd, most_pivots, pivots_of}
 use Rattle.qm_simplex.specs.Runs.{Leads, Pivot}
-use Rattle.qm_simplex.specs.Steps.{RunsTo, Tells}
+use Rattle.qm_simplex.specs.RunSteps.{RunsTo, Tells}
 use Rattle.qm_simplex.specs.Stops.{Answer, Follows, IsRunFrom, Located, after_choice, after_pivot, after_pivots, best_at, stop_at, void_at}
 use Rattle.qm_simplex.proofs.Endings.{best_end, void_end}
 use Rattle.qm_simplex.proofs.GoodRuns.{run_good}

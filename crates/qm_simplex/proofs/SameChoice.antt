@@ -8,28 +8,25 @@ use Rattle.std.proofs.lemmas.List.Elements.{All-head, All-tail}
 use Rattle.qm_math.specs.Fraction.{Fraction, HasPositiveDen, IsBelow, IsSame, is_below}
 use Rattle.qm_math.specs.Arithmetic.{quotient_of}
 use Rattle.qm_math.proofs.FractionLaws.{quotient_of-same, quotient_of_den, same_sym, same_trans}
-use Rattle.qm_math.proofs.FractionOrder.{below_congr}
+use Rattle.qm_math.proofs.FractionOrder.{below_congr, same_above, same_below}
+use Rattle.qm_math.proofs.WholeTests.{lt_of_test, test_of_lt}
+use Rattle.qm_math.proofs.Magnitudes.{unsigned_abs-above_zero}
 use Rattle.qm_frac.specs.Checked.{divided}
 use Rattle.qm_frac.specs.Order.{fraction_cmp}
-use Rattle.qm_frac.proofs.CheckedLaws.{IsFrac-divided}
+use Rattle.qm_frac.proofs.CheckedLaws.{IsFrac-divided, divided-value}
 use Rattle.qm_tableau.specs.declared.choice.Choice.{Choice}
 use Rattle.qm_tableau.specs.declared.choice.Choice.TheVariants as choice
 use Rattle.qm_tableau.specs.Tables.{Table, entry_of, row_at}
 use Rattle.qm_tableau.specs.Leaving.{Placed, placed, next}
 use Rattle.qm_tableau.specs.Rule.{choice_at, choice_of, chosen, entering_column, greater_column, is_greater, leaving_row}
 use Rattle.qm_tableau.specs.Exact.{AreSameTables}
-use Rattle.qm_tableau.proofs.Exactness.{entry_den, next-ok, not_zero, placed-ok, quotient, same_value}
+use Rattle.qm_tableau.proofs.Exactness.{entry_den, next-ok, not_zero, placed-ok, same_value}
 use Rattle.qm_tableau.proofs.PivotColumns.{same_entry}
+use Rattle.qm_tableau.proofs.Greatest.{entry_of-drop}
 use Rattle.qm_simplex.specs.Exact.{exact_choice, exact_choice_at, exact_entering_column, exactly_greater_column, is_exactly_greater}
-use Rattle.qm_simplex.proofs.SameTables.{row_at_den, same_above, same_below, same_row_at, some_above}
+use Rattle.qm_simplex.proofs.SameTables.{row_at_den, same_row_at}
 
 -- ---- tests
-lt_of_test : (a b : ℤ) → int_lt a b ≡ true → a <ℤ b
-lt_of_test a b e = grind (arith, ints)
-
-test_of_lt : (a b : ℤ) → a <ℤ b → int_lt a b ≡ true
-test_of_lt a b h = grind (arith, ints)
-
 test_of_not : (a b : ℤ) → (a <ℤ b → ⊥) → int_lt a b ≡ false
 test_of_not a b none = by_test (int_lt a b) refl
   where
@@ -130,8 +127,8 @@ module _ (k : ℕ) (p v : Fraction) (b : ℕ) (q w : Fraction) (p_some : 0 < uns
       let g = quotient_of (entry_of u b) w in
       by_order x y f g (IsFrac-divided m p x md p_some x_is).positive (IsFrac-divided n q y nd q_some y_is).positive
       (quotient_of_den (entry_of u k) v (entry_den u k u0) (not_zero v.num v_some)) (quotient_of_den (entry_of u b) w (entry_den u b u0) (not_zero w.num w_some))
-      (same_trans x (quotient_of m p) f (quotient_of_den m p md (not_zero p.num p_some)) (quotient m p x x_is) (quotient_of-same m p (entry_of u k) v (same_entry t u k e.0) pv))
-      (same_trans y (quotient_of n q) g (quotient_of_den n q nd (not_zero q.num q_some)) (quotient n q y y_is) (quotient_of-same n q (entry_of u b) w (same_entry t u b e.0) qw))
+      (same_trans x (quotient_of m p) f (quotient_of_den m p md (not_zero p.num p_some)) (divided-value m p x x_is) (quotient_of-same m p (entry_of u k) v (same_entry t u k e.0) pv))
+      (same_trans y (quotient_of n q) g (quotient_of_den n q nd (not_zero q.num q_some)) (divided-value n q y y_is) (quotient_of-same n q (entry_of u b) w (same_entry t u b e.0) qw))
       (fraction_cmp x y) refl
       (λ z. greater_same (suc i) ts us r e.1 (All-tail (λ (l : List Fraction). All HasPositiveDen l) t ts td) (All-tail (λ (l : List Fraction). All HasPositiveDen l) u us ud) z) second.2
     where
@@ -179,8 +176,8 @@ module _ (ts us : List (List Fraction)) (l m : List Fraction) (e : AllZip (AllZi
   column_same k (Some b) c kh bh h =
       let first = next-ok (is_greater k (entry_of l k) b (entry_of l b) 0 ts) (λ greater. Ok (if greater then k else b)) c h in
       let same : is_exactly_greater k (entry_of m k) b (entry_of m b) us ≡ first.0 =
-      greater_same k (entry_of l k) (entry_of m k) b (entry_of l b) (entry_of m b) (some_above (entry_of l k).num kh) (some_above (entry_of m k).num (other_entering k kh))
-      (some_above (entry_of l b).num bh) (some_above (entry_of m b).num (other_entering b bh)) (same_entry l m k le) (same_entry l m b le) 0 ts us first.0 e td ud first.1 in
+      greater_same k (entry_of l k) (entry_of m k) b (entry_of l b) (entry_of m b) (unsigned_abs-above_zero (entry_of l k).num kh) (unsigned_abs-above_zero (entry_of m k).num (other_entering k kh))
+      (unsigned_abs-above_zero (entry_of l b).num bh) (unsigned_abs-above_zero (entry_of m b).num (other_entering b bh)) (same_entry l m k le) (same_entry l m b le) 0 ts us first.0 e td ud first.1 in
       let is : (if first.0 then k else b) ≡ c = same_value (if first.0 then k else b) c first.2 in
       (ap (λ (x : Bool). if x then k else b) same ∙ is, subst (λ (j : ℕ). pos 0 <ℤ (entry_of l j).num) is (by_answer first.0))
     where
@@ -217,10 +214,6 @@ module _ (ts us : List (List Fraction)) (l m : List Fraction) (e : AllZip (AllZi
       by_test false false q both later g = later best bh g
 
 -- ---- the choice
-behind : (row : List Fraction) (j : ℕ) → entry_of (drop 1 row) j ≡ entry_of row (1 + j)
-behind [] j = refl
-behind (t ∷ ts) j = let e : 1 + j ≡ suc j = omega arith in sym (ap (λ (n : ℕ). entry_of (t ∷ ts) n) e)
-
 den_behind : (row : List Fraction) → All HasPositiveDen row → All HasPositiveDen (drop 1 row)
 den_behind [] d = d
 den_behind (t ∷ ts) d = All-tail HasPositiveDen t ts d
@@ -245,5 +238,5 @@ choice_same t u named e td ud h =
         let md = row_at_den u.rows s ud in
         let le = same_row_at t.rows u.rows s e.rows in
         let steps = next-ok (entering_column t.rows l 1 None (drop 1 l)) (λ best. Ok (choice_of s best)) named g in
-        let same = entering_same t.rows u.rows l m e.rows le td ud ld md (drop 1 l) (drop 1 m) 1 None steps.0 (numbers_behind l m le) (den_behind l ld) (den_behind m md) (behind l) tt steps.1 in
+        let same = entering_same t.rows u.rows l m e.rows le td ud ld md (drop 1 l) (drop 1 m) 1 None steps.0 (numbers_behind l m le) (den_behind l ld) (den_behind m md) (entry_of-drop l) tt steps.1 in
         ap (λ (best : Option ℕ). choice_of s best) same ∙ same_choice (choice_of s steps.0) named steps.2

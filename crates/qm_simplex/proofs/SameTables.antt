@@ -1,16 +1,16 @@
 -- Tableaus with the same numbers, and pivots of such tableaus.
-use Rattle.std.proofs.Common.{◌≡◌, ◌∙◌, sym, ap, subst, ℕ, zero, suc, ◌-◌, ◌<◌, ◌≢◌, List, [], ◌∷◌, length, set, map, arith, All, Ok, ℤ, pos, ◌<ℤ◌, unsigned_abs}
+use Rattle.std.proofs.Common.{◌≡◌, ◌∙◌, sym, ap, subst, ℕ, zero, suc, ◌-◌, ◌<◌, ◌≢◌, List, [], ◌∷◌, length, set, map, All, Ok, ℤ, pos, ◌<ℤ◌, unsigned_abs}
 use Rattle.std.specs.List.{AllZip}
-use Rattle.std.proofs.lemmas.Int.{ints}
 use Rattle.std.proofs.lemmas.List.{length-set}
 use Rattle.std.proofs.lemmas.List.Elements.{All-cons, All-head, All-nil, All-set, All-tail, length_all_zip}
-use Rattle.qm_math.specs.Fraction.{Fraction, HasPositiveDen, IsBelow, IsSame, whole}
+use Rattle.qm_math.specs.Fraction.{Fraction, HasPositiveDen, IsSame}
 use Rattle.qm_math.specs.Arithmetic.{product_of, quotient_of}
 use Rattle.qm_math.specs.Totals.{reduced_row}
-use Rattle.qm_math.proofs.FractionLaws.{difference_of-same, product_of-same, quotient_of-same, quotient_of_den, same_refl, whole_den}
-use Rattle.qm_math.proofs.FractionOrder.{below_congr}
+use Rattle.qm_math.proofs.FractionLaws.{difference_of-same, product_of-same, quotient_of-same, quotient_of_den}
+use Rattle.qm_math.proofs.FractionOrder.{same_above}
 use Rattle.qm_math.proofs.Rows.{reduced_row_den}
 use Rattle.qm_math.proofs.SameLists.{all_same_refl, all_same_trans}
+use Rattle.qm_math.proofs.Magnitudes.{unsigned_abs-above_zero}
 use Rattle.qm_tableau.specs.Tables.{Table, entry_of, row_at}
 use Rattle.qm_tableau.specs.Pivoting.{pivoted}
 use Rattle.qm_tableau.specs.Exact.{AreSameTables, exact_row, exact_table}
@@ -45,37 +45,12 @@ row_at_den (t ∷ ts) zero d = All-head (λ (r : List Fraction). All HasPositive
 row_at_den (t ∷ ts) (suc r) d = row_at_den ts r (All-tail (λ (r : List Fraction). All HasPositiveDen r) t ts d)
 
 -- ---- signs of the same number
-above_of : (p : Fraction) → pos 0 <ℤ p.num → IsBelow (whole (pos 0)) p
-above_of p h = omega (arith, ints, h)
-
-num_above : (p : Fraction) → IsBelow (whole (pos 0)) p → pos 0 <ℤ p.num
-num_above p h = omega (arith, ints, h)
-
-below_of : (p : Fraction) → p.num <ℤ pos 0 → IsBelow p (whole (pos 0))
-below_of p h = omega (arith, ints, h)
-
-num_below : (p : Fraction) → IsBelow p (whole (pos 0)) → p.num <ℤ pos 0
-num_below p h = omega (arith, ints, h)
-
-pub same_above : (a b : Fraction) → 0 < a.den → 0 < b.den → IsSame a b → pos 0 <ℤ a.num → pos 0 <ℤ b.num
-same_above a b ad bd e h =
-    let z = whole (pos 0) in
-    num_above b (below_congr z a z b (whole_den (pos 0)) ad (whole_den (pos 0)) bd (same_refl z) e (above_of a h))
-
-pub same_below : (a b : Fraction) → 0 < a.den → 0 < b.den → IsSame a b → a.num <ℤ pos 0 → b.num <ℤ pos 0
-same_below a b ad bd e h =
-    let z = whole (pos 0) in
-    num_below b (below_congr a z b z ad (whole_den (pos 0)) bd (whole_den (pos 0)) e (same_refl z) (below_of a h))
-
-pub some_above : (n : ℤ) → pos 0 <ℤ n → 0 < unsigned_abs n
-some_above n h = omega (arith, ints, h)
-
 pub same_entry_above : (ts us : List (List Fraction)) (r c : ℕ) → AllZip (AllZip IsSame) ts us → All (λ row. All HasPositiveDen row) ts → All (λ row. All HasPositiveDen row) us
     → pos 0 <ℤ (entry_of (row_at ts r) c).num → 0 < unsigned_abs (entry_of (row_at us r) c).num
 same_entry_above ts us r c e td ud h =
     let a = entry_of (row_at ts r) c in
     let b = entry_of (row_at us r) c in
-    some_above b.num
+    unsigned_abs-above_zero b.num
     (same_above a b (entry_den (row_at ts r) c (row_at_den ts r td)) (entry_den (row_at us r) c (row_at_den us r ud)) (same_entry (row_at ts r) (row_at us r) c (same_row_at ts us r e)) h)
 
 -- ---- the pivot in unbounded fractions

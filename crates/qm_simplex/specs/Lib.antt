@@ -2,6 +2,6 @@ pub mod Relaxation
 pub mod Runs
 pub mod Multipliers
 pub mod Stops
-pub mod Steps
+pub mod RunSteps
 pub mod Ends
 pub mod Exact

@@ -46,7 +46,7 @@ fn multiplier(tableau: &Tableau, row: u32, i: u32) -> Frac
     if i == row {
         return Frac::whole(1);
     }
-    number_for(i, tableau.columns(), &tableau.row(row)[1..]).neg()
+    number_for(i, tableau.rows_of_columns(), &tableau.row(row)[1..]).neg()
 }
 
 /// Puts an entry last, where its multiplier isn't 0.

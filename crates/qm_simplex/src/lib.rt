@@ -1,5 +1,11 @@
-//! The linear relaxation of a box, solved exactly: pivots by the rule from the first tableau on, and at the end a best
-//! point with a combination that bounds the objective by the same value, or a combination that contradicts the box.
+//! The linear relaxation of a box, solved exactly by Gomory's lexicographic dual simplex method: pivots by the rule from
+//! the first tableau on, and at the end a best point with a combination that bounds the objective by the same value, or,
+//! after Farkas, a combination that contradicts the box.
+//! `solve_lp` takes a game, cuts over its variables and a box in which no range is empty. It answers the end, or the first
+//! operation that leaves the range, where it belongs, and the pivots up to there.
+//! Its clauses cite `Stops` (what is answered where a run stops), `Runs` (tableaus that follow on), and `Ends` over
+//! `Relaxation` and `Multipliers`: what an end means, and how few pivots there are. The laws say that a run has one answer
+//! and one at least, that it is short, and, by `Exact`, that it is the run in unbounded fractions.
 #![tactic(auto)]
 
 mod answers;
@@ -19,6 +25,3 @@ pub use end_laws::{
 pub use exact_laws::runs_are_exact;
 pub use run_laws::{runs_are_short, runs_end, runs_have_one_answer, runs_keep_tableaus_good};
 pub use solve::solve_lp;
-
-#[cfg(test)]
-mod tests;

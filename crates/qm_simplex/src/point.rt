@@ -3,7 +3,7 @@ ghost use Rattle.qm_math.specs.Fraction.{whole};
 ghost use Rattle.qm_frac.specs.Checked.{added};
 ghost use Rattle.qm_model.specs.Sound.{IsSound};
 ghost use Rattle.qm_simplex.specs.declared.answers.LeavePlace.TheVariants as place;
-ghost use Rattle.qm_simplex.specs.Steps.{Gives};
+ghost use Rattle.qm_simplex.specs.RunSteps.{Gives};
 ghost use Rattle.qm_simplex.specs.Stops.{located, point_at, value_at};
 ghost use Rattle.qm_tableau.specs.Tables.{entry_at};
 

@@ -1,4 +1,4 @@
-ghost use Rattle.qm_simplex.specs.Steps.{IsStep, RunsTo};
+ghost use Rattle.qm_simplex.specs.RunSteps.{IsStep, RunsTo};
 
 use crate::stuck::Stuck;
 use crate::{LeavePlace, LpFault, RunLeaves};
@@ -46,7 +46,7 @@ fn step(tableau: &mut Tableau, pivots: &mut List<(u32, u32)>) -> Result<Option<E
 
 /// Pivots by the rule until it names none. `Leaves`, where an operation leaves; the tableau then is as it was before
 /// that pivot.
-#[tactic(auto, using(crate::proofs::EndingRuns::one_more))]
+#[tactic(auto, using(crate::proofs::EndingRuns::pivots_lead_on))]
 pub fn run(alloc: Global, tableau: &mut Tableau) -> Result<Finished, LpFault>
     ensures { RunsTo tableau.old result tableau.new }
 {

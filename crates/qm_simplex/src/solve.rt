@@ -4,7 +4,7 @@ ghost use Rattle.qm_model.specs.Sound.{IsRowOver, IsSound};
 ghost use Rattle.qm_tableau.specs.Good.{IsGood};
 ghost use Rattle.qm_tableau.specs.Rule.{chosen};
 ghost use Rattle.qm_simplex.specs.Ends.{IsRightEnd, most_pivots, pivots_of};
-ghost use Rattle.qm_simplex.specs.Steps.{Gives, Tells, choice_at_end};
+ghost use Rattle.qm_simplex.specs.RunSteps.{Gives, Tells, choice_at_end};
 ghost use Rattle.qm_simplex.specs.Stops.{Follows, best_at, stop_at};
 
 use crate::combination::closing_combination;
@@ -57,7 +57,7 @@ fn end_of(
     requires few_cuts { length cuts.now < 2 ^ 29 }
     requires bx { IsBox problem.now.vars bx.now }
     requires good { IsGood problem.now cuts.now bx.now tableau.now }
-    requires ends { chosen tableau.now ≡ Ok (choice_at_end run.ending) }
+    requires ending { chosen tableau.now ≡ Ok (choice_at_end run.ending) }
     ensures { Tells (stop_at problem.now cuts.now bx.now run.pivots tableau.now) result }
 {
     let count = run.pivots.len() as u64;

@@ -111,15 +111,15 @@ first_more : (byte : ℕ) (text : List ℕ) → is_blank byte ≡ false → begi
 first_more byte text p q [] last same is good = absurd (blank_begins last good (ap begins_word (sym same) ∙ q))
 first_more byte text p q (piece ∷ ps) last same is good = byte_more byte text p q piece.gap piece.first piece.others ps last same is good
 
-one_more : (byte : ℕ) (text : List ℕ) (blank begins : Bool) → is_blank byte ≡ blank → begins_word text ≡ begins → Cut text → Cut (byte ∷ text)
-one_more byte text true begins p q c = blank_more byte text p c.pieces c.last c.text_is c.words_are c.parts
-one_more byte text false true p q c = first_more byte text p q c.pieces c.last c.text_is c.words_are c.parts
-one_more byte text false false p q c = word_more byte text p q c
+cut_more : (byte : ℕ) (text : List ℕ) (blank begins : Bool) → is_blank byte ≡ blank → begins_word text ≡ begins → Cut text → Cut (byte ∷ text)
+cut_more byte text true begins p q c = blank_more byte text p c.pieces c.last c.text_is c.words_are c.parts
+cut_more byte text false true p q c = first_more byte text p q c.pieces c.last c.text_is c.words_are c.parts
+cut_more byte text false false p q c = word_more byte text p q c
 
 -- each text is cut so
 pub cut : (text : List ℕ) → Cut text
 cut [] = record { pieces = []; last = []; text_is = refl; words_are = refl; parts = tt }
-cut (byte ∷ text) = one_more byte text (is_blank byte) (begins_word text) refl refl (cut text)
+cut (byte ∷ text) = cut_more byte text (is_blank byte) (begins_word text) refl refl (cut text)
 
 -- there are no more pieces than bytes
 pub few_pieces : (ps : List Piece) (last : List ℕ) → length ps ≤ length (joined ps last)

@@ -4,6 +4,7 @@ use Rattle.std.specs.Prelude.{Contains}
 use Rattle.std.specs.Str.{bytes_eq}
 use Rattle.std.proofs.lemmas.List.Elements.{All-append, All-cons, All-contains, All-contains_itself, All-head, All-nil, All-tail}
 use Rattle.std.proofs.lemmas.List.Kept.{AllPairs-cons}
+use Rattle.std.proofs.lemmas.Bool.{or_left, or_right}
 use Rattle.qm_parse.specs.Checks.{Has, NamesRight, bound_uses, has_name, has_upper, name_fault, row_uses, term_use, term_uses, uses}
 use Rattle.qm_parse.specs.declared.ast.Ast.{Ast}
 use Rattle.qm_parse.specs.declared.ast.AstBound.{AstBound}
@@ -109,14 +110,6 @@ pub names_have : (names known written : List (List ℕ)) (order list : List Name
 names_have names known written order list both all is =
     all_named names (Contains known) (λ named. Has order named.name) (λ name named numbers there. numbered names name named order numbers (has_from names known order name numbers.held both there)) written list all is
 
-pub right_of : (a b : Bool) → b ≡ true → (a || b) ≡ true
-right_of true b e = refl
-right_of false b e = e
-
-left_of : (a b : Bool) → a ≡ true → (a || b) ≡ true
-left_of true b e = refl
-left_of false b e = absurd cc
-
 has-append : (xs ys : List Named) (n : ℕ) → has_name (xs ++ ys) n ≡ (has_name xs n || has_name ys n)
 has-append [] ys n = refl
 has-append (x ∷ xs) ys n = ap (λ b. eqb x.name n || b) (has-append xs ys n) ∙ sym (assoc (eqb x.name n) (has_name xs n) (has_name ys n))
@@ -126,10 +119,10 @@ has-append (x ∷ xs) ys n = ap (λ b. eqb x.name n || b) (has-append xs ys n) �
     assoc false b c = refl
 
 has_right : (xs ys : List Named) (n : ℕ) → Has ys n → Has (xs ++ ys) n
-has_right xs ys n has = has-append xs ys n ∙ right_of (has_name xs n) (has_name ys n) has
+has_right xs ys n has = has-append xs ys n ∙ or_right (has_name xs n) (has_name ys n) has
 
 has_left : (xs ys : List Named) (n : ℕ) → Has xs n → Has (xs ++ ys) n
-has_left xs ys n has = has-append xs ys n ∙ left_of (has_name xs n) (has_name ys n) has
+has_left xs ys n has = has-append xs ys n ∙ or_left (has_name xs n) (has_name ys n) has
 
 binaries_used : (ast : Ast) (n : ℕ) → Has ast.binaries n → Has (uses ast) n
 binaries_used ast n has =
@@ -139,7 +132,7 @@ binaries_used ast n has =
 no_names : (Q : Named → Type 0) (list : List Named) → list ≡ [] → All Q list
 no_names Q list none = subst (All Q) (sym none) (All-nil Q)
 
-pub right_names : (names : List (List ℕ)) (written : Written) (ast : Ast) → IsTreeOf names written ast → small.NamesRight written → NamesRight ast
+pub right_names : (names : List (List ℕ)) (written : Written) (ast : Ast) → IsTreeOf names written ast → small.NamesFit written → NamesRight ast
 right_names names written ast tree right =
     let fit = right.lists in
     let Q : Named → Type 0 = λ named. Has ast.order named.name in
@@ -171,8 +164,8 @@ right_names names written ast tree right =
           (All-append Q _ (bound_uses ast.bounds)
           (All-append Q _ (row_uses ast.uncertain) (All-append Q (term_uses ast.objective) (row_uses ast.rows) objective rows) uncertain) bounds) generals) binaries) existential) universal;
       finite = subst (All IsFinite) (sym tree.bounds) (All-nil IsFinite);
-      bounded = λ k d below. left_of (has_name ast.binaries _) (has_upper ast.bounds _) (binary k d below);
+      bounded = λ k d below. or_left (has_name ast.binaries _) (has_upper ast.bounds _) (binary k d below);
     }
 
-pub no_fault : (names : List (List ℕ)) (written : Written) (ast : Ast) → IsTreeOf names written ast → small.NamesRight written → name_fault ast ≡ None
+pub no_fault : (names : List (List ℕ)) (written : Written) (ast : Ast) → IsTreeOf names written ast → small.NamesFit written → name_fault ast ≡ None
 no_fault names written ast tree right = None-from_NamesRight ast (right_names names written ast tree right)

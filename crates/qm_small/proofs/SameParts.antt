@@ -2,6 +2,7 @@
 use Rattle.std.proofs.Common.{◌≡◌, ◌≢◌, ℕ, zero, suc, ◌+◌, ◌^◌, ◌<◌, ◌≤◌, Bool, true, false, cond, List, [], ◌∷◌, ◌⊎◌, length, ℤ, pos, neg_ℤ, unsigned_abs, Some, refl, ap, sym, subst, ◌∙◌, inl, inr, arith}
 use Rattle.std.specs.Prelude.{codes, IsTrue}
 use Rattle.qm_math.specs.Fraction.{whole}
+use Rattle.qm_math.proofs.Lists.{cons-nonempty}
 use Rattle.qm_lex.specs.declared.place.Place.{Place}
 use Rattle.qm_lex.specs.declared.token.Keyword.{Keyword}
 use Rattle.qm_lex.specs.declared.token.Kind.{Kind}
@@ -14,7 +15,7 @@ use Rattle.qm_parse.specs.declared.word.Symbol.{Symbol}
 use Rattle.qm_parse.specs.declared.word.Word.{Word}
 use Rattle.qm_parse.specs.declared.word.Word.TheVariants.{Name, Number, Sign, Related, Keyword as Reserved}
 use Rattle.qm_parse.specs.Drafts.{one, signed_by}
-use Rattle.qm_parse.specs.Parts.{Each, Either, ListedName, Multiple, NameAt, NothingIf, Part, Row, RowEnds, Says, SignOf, SignedNumber, SignedTerm, StandsAt, Terms, is_odd}
+use Rattle.qm_parse.specs.Parts.{Each, Either, ListedName, Multiple, NameAt, NothingIf, Part, RowOf, RowEnds, Says, SignOf, SignedNumber, SignedTerm, StandsAt, Terms, is_odd}
 use Rattle.qm_small.specs.Written.{Word as Spelling, WrittenRow, WrittenTerm}
 use Rattle.qm_small.specs.Grammar as small
 use Rattle.qm_small.specs.Problems.{signed_factor}
@@ -94,16 +95,13 @@ a_number names n (w ∷ ws) rest (s ∷ symbols) p meant =
 
 -- ---- terms
 
-some_signs : (minus : Bool) (signs : List Bool) → minus ∷ signs ≢ []
-some_signs minus signs e = absurd cc
-
 -- signs of which an odd number is a minus, or not
 abbrev pub AreSigns : Bool → Bool → List Bool → Type 0
 AreSigns is_first negative signs = (IsTrue is_first ⊎ (signs ≢ [])) × (is_odd signs ≡ negative)
 
 one_sign : (names : List (List ℕ)) (is_first minus : Bool) (rest : List Spelling) (symbols : List Symbol) → Behind names rest (Says (Sign minus)) symbols → Finds names rest (AreSigns is_first minus) (Each SignOf) symbols
-one_sign names is_first true rest symbols found = (true ∷ [], (inr (some_signs true []), refl), found.0, (found.0, found.1, refl), found.2)
-one_sign names is_first false rest symbols found = (false ∷ [], (inr (some_signs false []), refl), found.0, (found.0, found.1, refl), found.2)
+one_sign names is_first true rest symbols found = (true ∷ [], (inr (cons-nonempty true []), refl), found.0, (found.0, found.1, refl), found.2)
+one_sign names is_first false rest symbols found = (false ∷ [], (inr (cons-nonempty false []), refl), found.0, (found.0, found.1, refl), found.2)
 
 plus : (names : List (List ℕ)) (ws rest : List Spelling) (symbols : List Symbol) → small.Literal (codes "+") ws rest → AreMeant names ws symbols → Behind names rest (Says (Sign false)) symbols
 plus names = literal names (codes "+") kind.Plus (Sign false) kind_of-plus (λ labels. refl)
@@ -271,7 +269,7 @@ no_terms names [] found some both = absurd (some refl)
 no_terms names (term ∷ written) [] some both = absurd both
 no_terms names (term ∷ written) (t ∷ found) some both = λ e. absurd cc
 
-pub a_row : (names : List (List ℕ)) (written : WrittenRow) (ws rest : List Spelling) (symbols : List Symbol) → small.Row written ws rest → AreMeant names ws symbols → Finds names rest (RowIs names written) Row symbols
+pub a_row : (names : List (List ℕ)) (written : WrittenRow) (ws rest : List Spelling) (symbols : List Symbol) → small.Row written ws rest → AreMeant names ws symbols → Finds names rest (RowIs names written) RowOf symbols
 a_row names written ws rest symbols p meant =
     let takes = row_takes written ws rest p in
     let at = first_place names ws symbols (omega arith) meant in

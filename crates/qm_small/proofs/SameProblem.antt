@@ -4,14 +4,14 @@ use Rattle.qm_model.specs.declared.game.Problem.{Problem}
 use Rattle.qm_normal.specs.Stated.{States}
 use Rattle.qm_parse.specs.Symbols.{names_of}
 use Rattle.qm_small.specs.Written.{Written}
-use Rattle.qm_small.specs.Grammar.{Spells}
-use Rattle.qm_small.specs.Names.{NamesRight}
+use Rattle.qm_small.specs.Grammar.{SpellsText}
+use Rattle.qm_small.specs.Names.{NamesFit}
 use Rattle.qm_small.specs.Problems.{problem_of}
 use Rattle.qm_small.specs.Small.{IsSmallText}
 use Rattle.qm_small.proofs.SameProblems.{normal_is}
 use Rattle.qm_small.proofs.SameReading.{text_few, text_read}
 
-states : (text : List ℕ) (written : Written) → length text ≤ 65536 → Spells text written → NamesRight written → States text (problem_of written)
+states : (text : List ℕ) (written : Written) → length text ≤ 65536 → SpellsText text written → NamesFit written → States text (problem_of written)
 states text written short spelled right =
     let read = text_read text written spelled right in
     let few = text_few text written (2 ^ 64) (omega arith) spelled in

@@ -14,7 +14,7 @@ use Rattle.qm_parse.specs.declared.ast.Named.{Named}
 use Rattle.qm_normal.specs.declared.fault.Which.{Which}
 use Rattle.qm_normal.specs.declared.fault.Which.TheVariants as which
 use Rattle.qm_normal.specs.Limits.{variables_fault}
-use Rattle.qm_normal.specs.Normal.{maximised, normal_form, objective_from, objective_of, objective_times, problem_with, rows_from, scaled_objective}
+use Rattle.qm_normal.specs.Normal.{maximised, normal_form, objective_from, objective_form, objective_times, problem_with, rows_from, scaled_objective}
 use Rattle.qm_normal.specs.Rows as normal
 use Rattle.qm_normal.specs.Scopes.{scope_fault}
 use Rattle.qm_normal.specs.Variables.{game_order, vars_of, whole_names}
@@ -68,7 +68,7 @@ scaled vars ks small =
     ∙ ap (λ (r : Row). Some (objective_with r.terms r.right 1)) (row_times_one ks (pos 0))
 
 objective_is : (names : List (List ℕ)) (written : Written) (ast : Ast) → IsPlain names written ast → ast.sense ≡ Max → Both (TermIs names) written.objective ast.objective → length written.objective ≤ 2 ^ 64
-    → objective_of ast ≡ Ok (objective_with (terms_of written.order written.objective) (pos 0) 1)
+    → objective_form ast ≡ Ok (objective_with (terms_of written.order written.objective) (pos 0) 1)
 objective_is names written ast plain sense both few =
     let vars = map (var_of written.universal) written.order in
     let ks = map (total written.objective) written.order in
@@ -97,7 +97,7 @@ same_problem names written ast plain sense wholes =
       scale = pos 1;
     }
 
-pub normal_is : (names : List (List ℕ)) (written : Written) (ast : Ast) → IsTreeOf names written ast → small.NamesRight written → length written.objective ≤ 2 ^ 64 → All (HasFewTerms (2 ^ 64)) written.rows → normal_form ast ≡ Ok (problem_of written)
+pub normal_is : (names : List (List ℕ)) (written : Written) (ast : Ast) → IsTreeOf names written ast → small.NamesFit written → length written.objective ≤ 2 ^ 64 → All (HasFewTerms (2 ^ 64)) written.rows → normal_form ast ≡ Ok (problem_of written)
 normal_is names written ast tree right few few_rows =
     let fit = right.lists in
     let binary = all_binary names written ast tree fit in

@@ -8,8 +8,8 @@ use Rattle.qm_parse.specs.declared.ast.Ast.{Ast}
 use Rattle.qm_parse.specs.Parsing.{IsParsed}
 use Rattle.qm_parse.specs.Symbols.{names_of}
 use Rattle.qm_small.specs.Written.{Word, Written}
-use Rattle.qm_small.specs.Grammar.{SmallText, Spells}
-use Rattle.qm_small.specs.Names.{NamesRight}
+use Rattle.qm_small.specs.Grammar.{SmallText, SpellsText}
+use Rattle.qm_small.specs.Names.{NamesFit}
 use Rattle.qm_small.specs.Words.{words}
 use Rattle.qm_small.proofs.Numbering.{are_held}
 use Rattle.qm_small.proofs.Pieces.{cut, few_pieces, word_of}
@@ -32,7 +32,7 @@ pub record IsRead (text : List ℕ) (written : Written) : Type 0 where
   pub parsed : IsParsed text tokens (Ok ast)
   pub tree : IsTreeOf (names_of text tokens) written ast
 
-words_read : (text : List ℕ) (written : Written) → SmallText written (words text) [] → NamesRight written → IsRead text written
+words_read : (text : List ℕ) (written : Written) → SmallText written (words text) [] → NamesFit written → IsRead text written
 words_read text written spelled right =
     let pieces = cut text in
     let ps = pieces.pieces in
@@ -57,8 +57,8 @@ words_read text written spelled right =
       tree = found.tree;
     }
 
-pub text_read : (text : List ℕ) (written : Written) → Spells text written → NamesRight written → IsRead text written
-unfolding Spells
+pub text_read : (text : List ℕ) (written : Written) → SpellsText text written → NamesFit written → IsRead text written
+unfolding SpellsText
 text_read text written spelled right = words_read text written spelled right
 
 -- what is written has few terms
@@ -66,8 +66,8 @@ pub record HasFew (n : ℕ) (written : Written) : Type 0 where
   pub objective : length written.objective ≤ n
   pub rows : All (HasFewTerms n) written.rows
 
-pub text_few : (text : List ℕ) (written : Written) (n : ℕ) → length text ≤ n → Spells text written → HasFew n written
-unfolding Spells
+pub text_few : (text : List ℕ) (written : Written) (n : ℕ) → length text ≤ n → SpellsText text written → HasFew n written
+unfolding SpellsText
 text_few text written n short spelled =
     let counts = few_terms written (words text) spelled in
     let few = few_words text in

@@ -65,11 +65,11 @@ total_nil test sum = refl
 abbrev IsTotal : (AstTerm → Bool) → List AstTerm → ℤ → ℤ → Type 0
 IsTotal test terms start sum = normal.total_from test terms (whole start) ≡ Ok (whole sum)
 
-one_more : (test : AstTerm → Bool) (name : List ℕ) (written : WrittenTerm) (others : List WrittenTerm) (term : AstTerm) (terms : List AstTerm) (s : ℤ) (b : Bool) → test term ≡ b → term.coef ≡ whole (signed_factor written) → written.factor < 2 ^ 32
+total_with_term : (test : AstTerm → Bool) (name : List ℕ) (written : WrittenTerm) (others : List WrittenTerm) (term : AstTerm) (terms : List AstTerm) (s : ℤ) (b : Bool) → test term ≡ b → term.coef ≡ whole (signed_factor written) → written.factor < 2 ^ 32
     → unsigned_abs s < 2 ^ 126 → (b ≡ true → IsTotal test terms (s +ℤ signed_factor written) (sum_from (s +ℤ signed_factor written) others name)) → IsTotal test terms s (sum_from s others name)
     → normal.total_from test (term ∷ terms) (whole s)
     ≡ Ok (whole (fold ◌+ℤ◌ s (map signed_factor (cond b (written ∷ filter (λ (t : WrittenTerm). bytes_eq t.name name) others) (filter (λ (t : WrittenTerm). bytes_eq t.name name) others)))))
-one_more test name written others term terms s true is coef few small added' passed =
+total_with_term test name written others term terms s true is coef few small added' passed =
     let k = signed_factor written in
     let size : unsigned_abs k ≡ written.factor = factor_size written.negative written.factor in
     let grown = sum_size s k in
@@ -77,7 +77,7 @@ one_more test name written others term terms s true is coef few small added' pas
     ∙ ap (λ c. cond c (and_then (added (whole s) term.coef) (normal.total_from test terms)) (normal.total_from test terms (whole s))) is
     ∙ and_then-added test terms s k term.coef coef (omega arith) (omega arith) (omega arith)
     ∙ added' refl
-one_more test name written others term terms s false is coef few small added' passed =
+total_with_term test name written others term terms s false is coef few small added' passed =
     total_step test term terms (whole s) ∙ ap (λ c. cond c (and_then (added (whole s) term.coef) (normal.total_from test terms)) (normal.total_from test terms (whole s))) is ∙ passed
 
 total_is : (names : List (List ℕ)) (name : List ℕ) → Held names name → (written : List WrittenTerm) (terms : List AstTerm) (s : ℤ) → Both (TermIs names) written terms → unsigned_abs s + length written * 2 ^ 32 < 2 ^ 126
@@ -89,7 +89,7 @@ total_is names name held (w ∷ written) (t ∷ terms) s both small =
     let size : unsigned_abs (signed_factor w) ≡ w.factor = factor_size w.negative w.factor in
     let few = both.0.small in
     let grown = sum_size s (signed_factor w) in
-    one_more (normal.is_of (number_of names name)) name w written t terms s (bytes_eq w.name name) (test_is names name w t held both.0) both.0.coef few (omega arith)
+    total_with_term (normal.is_of (number_of names name)) name w written t terms s (bytes_eq w.name name) (test_is names name w t held both.0) both.0.coef few (omega arith)
     (λ _. total_is names name held written terms (s +ℤ signed_factor w) both.1 (omega arith))
     (total_is names name held written terms s both.1 (omega arith))
 

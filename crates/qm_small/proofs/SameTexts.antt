@@ -3,6 +3,7 @@ use Rattle.std.proofs.Common.{◌≡◌, ◌≢◌, ℕ, ◌≤◌, Bool, true, 
 use Rattle.std.specs.Prelude.{codes}
 use Rattle.std.proofs.lemmas.List.Elements.{All-cons, All-nil, All-weaker}
 use Rattle.std.proofs.lemmas.List.Kept.{AllPairs-cons}
+use Rattle.std.proofs.lemmas.Bool.{true≢false}
 use Rattle.qm_lex.specs.declared.token.Keyword.{Keyword}
 use Rattle.qm_lex.specs.declared.token.Keyword.TheVariants as keyword
 use Rattle.qm_lex.specs.declared.token.Kind.TheVariants as kind
@@ -16,7 +17,7 @@ use Rattle.qm_parse.specs.declared.stage.NameList.TheVariants.{Binaries, Exists,
 use Rattle.qm_parse.specs.declared.stage.Section.TheVariants as section
 use Rattle.qm_parse.specs.declared.word.Symbol.{Symbol}
 use Rattle.qm_parse.specs.declared.word.Word.TheVariants.{Keyword as Reserved}
-use Rattle.qm_parse.specs.Parts.{Constant, Each, Either, ListHeading, ListedName, Multiple, Objective, Part, Row, RowsHeading, Says, SenseWord}
+use Rattle.qm_parse.specs.Parts.{Constant, Each, Either, ListHeading, ListedName, Multiple, ObjectiveOf, Part, RowOf, RowsHeading, Says, SenseWord}
 use Rattle.qm_parse.specs.Reading.{empty_ast}
 use Rattle.qm_parse.specs.Texts.{AreSections, IsText, Listed, SectionOf, TextOf, Written, WrittenText, ast_of, section_written}
 use Rattle.qm_parse.proofs.OnceOnly.{AllPairs-nil}
@@ -32,7 +33,7 @@ maximize : (names : List (List ℕ)) (ws rest : List Spelling) (symbols : List S
 maximize names ws rest symbols p meant =
     let found = heading names (codes "MAXIMIZE") keyword.Maximize kind_of-maximize ws rest symbols p meant in (found.0, inl found.1, found.2)
 
-objective : (names : List (List ℕ)) (written : List WrittenTerm) (ws rest : List Spelling) (symbols : List Symbol) → small.Terms written ws rest → AreMeant names ws symbols → Finds names rest (Both (TermIs names) written) Objective symbols
+objective : (names : List (List ℕ)) (written : List WrittenTerm) (ws rest : List Spelling) (symbols : List Symbol) → small.Terms written ws rest → AreMeant names ws symbols → Finds names rest (Both (TermIs names) written) ObjectiveOf symbols
 objective names written ws rest symbols p meant =
     let found = terms names (λ t n. Either (Multiple t n) (Constant t n)) (λ t n ss r m. inl m) written ws rest symbols p meant in
     (found.0, found.1, found.2, (symbols, inr refl, found.3), found.4)
@@ -71,14 +72,11 @@ pub record IsOptional (names written : List (List ℕ)) (is_written : Bool) (nam
 abbrev OptionalSection : NameList → Bool × List Named → Part
 OptionalSection list found = Each SectionOf (where_written found.0 (Listed list found.1))
 
-false_true : true ≡ false → ⊥
-false_true e = absurd cc
-
 optional_section : (names : List (List ℕ)) (spelling : List ℕ) (word : Keyword) (list : NameList) → kind_of spelling ≡ kind.Keyword word → IsHeading list word → (written : List (List ℕ)) (ws rest : List Spelling) (symbols : List Symbol)
     → small.OptionalNames spelling written ws rest → AreMeant names ws symbols → Finds names rest (λ (found : Bool × List Named). IsOptional names written found.0 found.1) (OptionalSection list) symbols
 optional_section names spelling word list is heads written ws rest symbols (inl p) meant =
     let found = name_section names spelling word list is heads written ws rest symbols p meant in
-    ((true, found.0), record { named_is = found.1; none = λ e. absurd (false_true e) }, found.2, (found.2, found.3, refl), found.4)
+    ((true, found.0), record { named_is = found.1; none = λ e. absurd (true≢false e) }, found.2, (found.2, found.3, refl), found.4)
 optional_section names spelling word list is heads written ws rest symbols (inr p) meant =
     let P : List (List ℕ) → Type 0 = λ w. Both (NamedIs names) w [] in
     ((false, []), record { named_is = subst P (sym p.0) tt; none = λ e. refl }, symbols, refl, subst (λ r. AreMeant names r symbols) p.1 meant)
@@ -252,7 +250,7 @@ has_tree names written ws symbols p meant =
     let left = objective names written.objective p.1.0 p.0 sense.0 p.1.2 sense.2 in
     let part = p.2 in
     let head = rows_heading names p.0 part.1.0 part.1.2.0 left.2 part.1.1 part.1.2.1 left.4 in
-    let rows = each names (RowIs names) small.Row Row (a_row names) written.rows part.1.2.0 part.0 head.0 part.1.2.2 head.2 in
+    let rows = each names (RowIs names) small.Row RowOf (a_row names) written.rows part.1.2.0 part.0 head.0 part.1.2.2 head.2 in
     let lists = part.2 in
     let binaries = name_section names (codes "BINARIES") keyword.Binaries Binaries kind_of-binaries (λ ss r h. inl h) written.binaries part.0 lists.0 rows.2 lists.1 rows.4 in
     let exists = optional_section names (codes "EXISTS") keyword.Exists Exists kind_of-exists (λ ss r h. h) written.exists lists.0 lists.2.0 binaries.2 lists.2.1 binaries.4 in

@@ -3,7 +3,7 @@ use Rattle.std.proofs.Common.{◌≡◌, ℕ, suc, ◌+◌, ◌*◌, ◌≤◌, 
 use Rattle.std.specs.Prelude.{slice_get, unwrap_or}
 use Rattle.std.specs.Ordering.{int_eq}
 use Rattle.std.specs.Str.{bytes_eq}
-use Rattle.std.proofs.lemmas.Bool.{cond-false, cond-true, not_from_true}
+use Rattle.std.proofs.lemmas.Bool.{cond-false, cond-true, not_from_true, or_right}
 use Rattle.std.proofs.lemmas.Bool.Decides.{nat_tests}
 use Rattle.std.proofs.lemmas.List.{append-nil, length-map}
 use Rattle.std.proofs.lemmas.List.Elements.{All-cons, All-head, All-nil, All-tail}
@@ -30,7 +30,7 @@ use Rattle.qm_small.specs.Names as small
 use Rattle.qm_small.specs.Problems.{nonzero_from, row_of, stands_in, total, var_of as small_var}
 use Rattle.qm_small.proofs.Counting.{length-le_among}
 use Rattle.qm_small.proofs.SameParts.{Both, NamedIs}
-use Rattle.qm_small.proofs.SameNames.{has_is, names_have, right_of}
+use Rattle.qm_small.proofs.SameNames.{has_is, names_have}
 use Rattle.qm_small.proofs.SameTexts.{IsTreeOf}
 
 -- lists that fit have at most 16 names in ORDER too
@@ -45,7 +45,7 @@ pub all_binary : (names : List (List ℕ)) (written : Written) (ast : Ast) → I
 all_binary names written ast tree fit = names_have names written.binaries written.order ast.binaries ast.order tree.binaries fit.order_known tree.order
 
 whole_if : (ast : Ast) (n : ℕ) → is_binary ast n ≡ true → is_whole ast n ≡ true
-whole_if ast n binary = right_of (has_name ast.generals n) (is_binary ast n) binary
+whole_if ast n binary = or_right (has_name ast.generals n) (is_binary ast n) binary
 
 -- ---- filters and searches
 

@@ -1,14 +1,15 @@
 -- The words of small texts are tokens: signs, relations, numbers, names and headings.
-use Rattle.std.proofs.Common.{◌≡◌, ◌≢◌, ℕ, suc, ◌+◌, Bool, true, false, not, cond, ◌&&◌, ◌||◌, List, [], ◌∷◌, ◌++◌, length, take, drop, map, eqb, leb, Some, refl, ap, sym, subst, ◌∙◌, inl, inr, arith}
+use Rattle.std.proofs.Common.{◌≡◌, ◌≢◌, ℕ, suc, ◌+◌, Bool, true, false, not, cond, ◌&&◌, List, [], ◌∷◌, ◌++◌, length, take, drop, map, leb, Some, refl, ap, sym, subst, ◌∙◌, inl, inr, arith}
 use Rattle.std.specs.Prelude.{codes}
 use Rattle.std.specs.Char.{is_ascii_alphabetic, is_ascii_alphanumeric, is_ascii_digit}
 use Rattle.std.specs.List.{list_all, list_any, prefix_len}
 use Rattle.std.specs.Str.{bytes_eq, str_eq_ignore_ascii_case}
-use Rattle.std.proofs.lemmas.Bool.{cases_Bool, not-false, not-true}
+use Rattle.std.proofs.lemmas.Bool.{cases_Bool, not-false, not-true, and_parts, or_parts}
 use Rattle.std.proofs.lemmas.Bool.Decides.{nat_tests}
 use Rattle.std.proofs.lemmas.List.{drop_at, take_at}
 use Rattle.std.proofs.lemmas.Slice.Eq.{bytes_eq-Decides}
-use Rattle.qm_text.proofs.Spellings.{and_parts, one_of_two}
+use Rattle.qm_math.proofs.Lists.{cons-first}
+use Rattle.qm_text.proofs.Spellings.{one_of_two}
 use Rattle.qm_lex.specs.declared.token.Kind.{Kind}
 use Rattle.qm_lex.specs.declared.token.Kind.TheVariants.{Name, Number, Plus, Minus, Less, Keyword as Meaning}
 use Rattle.qm_lex.specs.declared.token.Keyword.{Keyword}
@@ -20,6 +21,7 @@ use Rattle.qm_lex.specs.Reading.{digits_at, exponent_at, number_at, point_at, ta
 use Rattle.qm_lex.specs.Texts.{IsLongest}
 use Rattle.qm_lex.proofs.Blanks.{IsStop}
 use Rattle.qm_lex.proofs.Longest.{longest_name, longest_number, longest_other}
+use Rattle.qm_lex.proofs.NumberFronts.{no_zero}
 use Rattle.qm_small.specs.Spelling.{is_identifier, is_name, is_number, is_reserved, reserved}
 use Rattle.qm_small.specs.Words.{begins_word, is_blank}
 
@@ -83,12 +85,9 @@ digit_stops byte digit = record { no_blank = grind (arith, nat_tests); no_backsl
 digit_no_name : (byte : ℕ) → is_ascii_digit byte ≡ true → begins_name byte ≡ false
 digit_no_name byte digit = grind (arith, nat_tests)
 
-not_zero : (n : ℕ) → eqb (suc n) 0 ≡ false
-not_zero n = grind (arith, nat_tests)
-
 number_length : (text : List ℕ) (n : ℕ) → digits_at text ≡ suc n → tail_at (drop (suc n) text) ≡ 0 → Some (suc n) ≡ number_at text
 unfolding number_at
-number_length text n d t = rw (d, not_zero n, t) (ap (λ (k : ℕ). Some k) (let e : suc n ≡ suc n + 0 = omega arith in e))
+number_length text n d t = rw (d, no_zero n, t) (ap (λ (k : ℕ). Some k) (let e : suc n ≡ suc n + 0 = omega arith in e))
 
 pub number_parts : (bytes : List ℕ) → is_number bytes ≡ true → ((leb 1 (length bytes) && leb (length bytes) 6) ≡ true) × (list_all is_ascii_digit bytes ≡ true)
 unfolding is_number
@@ -152,13 +151,10 @@ letter_no_number first others letter =
       | inr apart ↦ apart
     ]
 
-first_is : (byte b : ℕ) (word rest : List ℕ) → byte ∷ word ≡ b ∷ rest → byte ≡ b
-first_is byte b word rest e = cc
-
 letter_no_mark : (first b : ℕ) (others rest : List ℕ) → is_ascii_alphabetic first ≡ true → is_ascii_alphabetic b ≡ false → bytes_eq (first ∷ others) (b ∷ rest) ≡ false
 letter_no_mark first b others rest letter mark =
     elim (cases_Bool (bytes_eq (first ∷ others) (b ∷ rest))) [
-      | inl same ↦ let e = ap is_ascii_alphabetic (first_is first b others rest ((bytes_eq-Decides (first ∷ others) (b ∷ rest)).0 same)) in absurd cc
+      | inl same ↦ let e = ap is_ascii_alphabetic (cons-first first b others rest ((bytes_eq-Decides (first ∷ others) (b ∷ rest)).0 same)) in absurd cc
       | inr apart ↦ apart
     ]
 
@@ -179,14 +175,10 @@ no_keyword word e = absurd cc
 pub heading_token : (bytes : List ℕ) (word : Keyword) → is_identifier bytes ≡ true → kind_of bytes ≡ Meaning word → IsTokenWord bytes
 heading_token bytes word is kind = letters_token bytes is (λ e. no_keyword word (sym kind ∙ e))
 
-neither : (a b : Bool) → (a || b) ≡ false → (a ≡ false) × (b ≡ false)
-neither true b e = absurd cc
-neither false b e = (refl, e)
-
 none_among : (entries : List (List ℕ × Kind)) (word : List ℕ) → list_any (str_eq_ignore_ascii_case word) (map (λ (e : List ℕ × Kind). e.0) entries) ≡ false → kind_among entries word ≡ Name
 none_among [] word none = refl
 none_among (entry ∷ entries) word none =
-    let here = neither (str_eq_ignore_ascii_case word entry.0) _ none in
+    let here = or_parts (str_eq_ignore_ascii_case word entry.0) _ none in
     rw here.0 (none_among entries word here.1)
 
 same_reserved : map (λ (e : List ℕ × Kind). e.0) meanings ≡ reserved

@@ -9,8 +9,8 @@ use Rattle.qm_model.specs.declared.game.Problem.{Problem}
 use Rattle.qm_model.specs.declared.game.Sense.TheVariants.{Max}
 use Rattle.qm_model.specs.declared.variable.Player.TheVariants.{Exists, All as Universal}
 use Rattle.qm_parse.proofs.OnceOnly.{AllPairs-nil}
-use Rattle.qm_small.specs.Grammar.{Spells}
-use Rattle.qm_small.specs.Names.{AreDistinct, AreKnown, AreOver, ListsFit, NamesRight}
+use Rattle.qm_small.specs.Grammar.{SpellsText}
+use Rattle.qm_small.specs.Names.{AreDistinct, AreKnown, AreOver, ListsFit, NamesFit}
 use Rattle.qm_small.specs.Small.{IsSmallText}
 use Rattle.qm_small.specs.Spelling.{is_identifier, is_name, is_number, is_reserved, reserved, value_of}
 use Rattle.qm_small.specs.Written.{Written, WrittenRow, WrittenTerm}
@@ -39,8 +39,8 @@ written = record {
 some_terms : row.terms ≢ []
 some_terms e = absurd cc
 
-spelled : Spells text written
-unfolding Spells is_name is_identifier is_reserved reserved is_number value_of
+spelled : SpellsText text written
+unfolding SpellsText is_name is_identifier is_reserved reserved is_number value_of
 spelled = (
   _,
   (_, (refl, refl), (_, (_, inr refl, (_, inr (refl, refl), (refl, refl, refl))), (_, (_, (refl, refl), (_, inl ((refl, refl), refl), (refl, refl, refl))), refl))),
@@ -119,7 +119,7 @@ lists_fit =
       apart = All-nil (λ name. ¬ Contains written.universal name);
     }
 
-names_right : NamesRight written
+names_right : NamesFit written
 names_right =
     let x = first_of_two (codes "x") (codes "y") in
     let y = second_of_two (codes "x") (codes "y") in

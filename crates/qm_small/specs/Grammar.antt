@@ -106,5 +106,5 @@ SmallText written =
     then Literal (codes "END")
 
 -- the text is a small text that says this, from its first word to its last
-unfoldable pub Spells : List ℕ → Written → Type 0
-Spells text written = SmallText written (words text) []
+unfoldable pub SpellsText : List ℕ → Written → Type 0
+SpellsText text written = SmallText written (words text) []

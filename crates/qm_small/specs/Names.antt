@@ -36,7 +36,7 @@ pub record ListsFit (written : Written) : Type 0 where
 
 -- The text names its variables right: its lists fit one another, each term names one of BINARIES, and there
 -- are at most 2,000 rows.
-pub record NamesRight (written : Written) : Type 0 where
+pub record NamesFit (written : Written) : Type 0 where
   pub lists : ListsFit written
   pub objective_known : AreOver written.binaries written.objective
   pub rows_known : AreRowsOver written.binaries written.rows

@@ -2,8 +2,8 @@
 use Rattle.std.specs.Prelude.{◌≡◌, ℕ, ◌≤◌, List, length}
 use Rattle.qm_model.specs.declared.game.Problem.{Problem}
 use Rattle.qm_small.specs.Written.{Written}
-use Rattle.qm_small.specs.Grammar.{Spells}
-use Rattle.qm_small.specs.Names.{NamesRight}
+use Rattle.qm_small.specs.Grammar.{SpellsText}
+use Rattle.qm_small.specs.Names.{NamesFit}
 use Rattle.qm_small.specs.Problems.{problem_of}
 
 -- The text states the problem: it has at most 65,536 bytes, it spells something that names its variables right,
@@ -11,6 +11,6 @@ use Rattle.qm_small.specs.Problems.{problem_of}
 pub record IsSmallText (text : List ℕ) (P : Problem) : Type 0 where
   pub short : length text ≤ 65536
   pub written : Written
-  pub spelled : Spells text written
-  pub names_right : NamesRight written
+  pub spelled : SpellsText text written
+  pub names_right : NamesFit written
   pub problem : P ≡ problem_of written

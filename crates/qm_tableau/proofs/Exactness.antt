@@ -6,12 +6,11 @@ use Rattle.std.proofs.lemmas.Int.{ints}
 use Rattle.std.proofs.lemmas.Bool.Decides.{nat_tests}
 use Rattle.std.proofs.lemmas.List.Elements.{All-head, All-tail}
 use Rattle.qm_math.specs.Fraction.{Fraction, HasPositiveDen, IsSame}
-use Rattle.qm_math.specs.Arithmetic.{difference_of, negated, product_of, quotient_of, sum_of}
+use Rattle.qm_math.specs.Arithmetic.{difference_of, product_of, quotient_of}
 use Rattle.qm_math.specs.Totals.{reduced_row}
 use Rattle.qm_math.proofs.FractionLaws.{difference_of-same, difference_of_den, product_of-same, product_of_den, same_refl, same_trans, quotient_of_den}
 use Rattle.qm_frac.specs.Checked.{Checked, divided, multiplied, subtracted}
 use Rattle.qm_frac.proofs.CheckedLaws.{IsFrac-divided, IsFrac-multiplied, and_then-ok, divided-value, multiplied-value, subtracted-value}
-use Rattle.qm_frac.proofs.MultipliedOut.{inverse-inverse_of}
 use Rattle.qm_tableau.specs.Tables.{Table, entry_of, row_at}
 use Rattle.qm_tableau.specs.Leaving.{Placed, placed, next}
 use Rattle.qm_tableau.specs.Pivoting.{less_multiple, new_entries, new_entry, new_row, new_rows, pivoted}
@@ -29,18 +28,6 @@ pub placed-ok : {A : Type 0} (i k : ℕ) (x : Checked A) (r : A) → placed i k 
 placed-ok i k (Ok x) r h = ap (λ y. Ok y) (same_value x r h)
 placed-ok i k (Err e) r h = absurd (cc)
 
-pub difference : (a b r : Fraction) → subtracted a b ≡ Ok r → IsSame r (difference_of a b)
-unfolding sum_of negated
-difference a b r h = subtracted-value a b r h
-
-pub product : (a b r : Fraction) → multiplied a b ≡ Ok r → IsSame r (product_of a b)
-unfolding product_of
-product a b r h = multiplied-value a b r h
-
-pub quotient : (a b r : Fraction) → divided a b ≡ Ok r → IsSame r (quotient_of a b)
-unfolding product_of
-quotient a b r h = rw (← inverse-inverse_of b) (divided-value a b r h)
-
 -- an entry less a multiple, for a factor that is the same number
 pub less-value : (t f g o x : Fraction) → 0 < t.den → 0 < f.den → 0 < g.den → 0 < o.den → IsSame f g → less_multiple t f o ≡ Ok x
     → IsSame x (difference_of t (product_of g o))
@@ -48,8 +35,8 @@ less-value t f g o x td fd gd od same h =
     let steps = and_then-ok (multiplied f o) (λ p. subtracted t p) x h in
     let p = steps.0 in
     let pd = (IsFrac-multiplied f o p fd od steps.1).positive in
-    let p_is : IsSame p (product_of g o) = same_trans p (product_of f o) (product_of g o) (product_of_den f o fd od) (product f o p steps.1) (product_of-same f o g o same (same_refl o)) in
-    same_trans x (difference_of t p) (difference_of t (product_of g o)) (difference_of_den t p td pd) (difference t p x steps.2)
+    let p_is : IsSame p (product_of g o) = same_trans p (product_of f o) (product_of g o) (product_of_den f o fd od) (multiplied-value f o p steps.1) (product_of-same f o g o same (same_refl o)) in
+    same_trans x (difference_of t p) (difference_of t (product_of g o)) (difference_of_den t p td pd) (subtracted-value t p x steps.2)
     (difference_of-same t p t (product_of g o) (same_refl t) p_is)
 
 -- ---- one entry
@@ -119,7 +106,7 @@ module _ (c : ℕ) (leaving : List Fraction) (some : 0 < unsigned_abs (entry_of 
       let is : divided a b ≡ Ok steps.0 = placed-ok i c (divided a b) steps.0 steps.1 in
       let ad = entry_den row c d in
       let bd = entry_den leaving c ld in
-      row_from i c steps.0 (quotient_of a b) (IsFrac-divided a b steps.0 ad some is).positive (quotient_of_den a b ad (not_zero b.num some)) (quotient a b steps.0 is)
+      row_from i c steps.0 (quotient_of a b) (IsFrac-divided a b steps.0 ad some is).positive (quotient_of_den a b ad (not_zero b.num some)) (divided-value a b steps.0 is)
       c 0 row leaving x (let e : c ≡ 0 + c = omega arith in e) count d ld steps.2
 
   rows_exact : (i : ℕ) (rows us : List (List Fraction)) → All (λ row. length row ≡ length leaving) rows → All (λ row. All HasPositiveDen row) rows

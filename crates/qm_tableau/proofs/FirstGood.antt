@@ -13,6 +13,7 @@ use Rattle.qm_math.proofs.SameLists.{all_same_sym}
 use Rattle.qm_model.specs.declared.range.Range.{Range}
 use Rattle.qm_model.specs.declared.row.Row.{Row}
 use Rattle.qm_model.specs.declared.game.Problem.{Problem}
+use Rattle.qm_model.proofs.BoxForms.{no_range}
 use Rattle.qm_tableau.specs.Tables.{entry_of, row_at}
 use Rattle.qm_tableau.specs.Quantities.{Quantity, bound_quantities, coefficient_in, objective_quantity, quantities, slack_quantity, turned, whole_value}
 use Rattle.qm_tableau.specs.FirstTable.{columns_from, corner, first_row, first_table, numbers_from, raises}
@@ -77,9 +78,6 @@ place_below : (b : Bool) (j n m : ℕ) → j < n → place b j < 1 + 2 * n + m
 unfolding place
 place_below true j n m h = omega (arith, h)
 place_below false j n m h = omega (arith, h)
-
-no_range : Range
-no_range = record { low = pos 0; high = pos 0 }
 
 -- ---- the values of the columns' quantities are the distances from the corner
 distances : (var : ℕ) (highs : List Bool) (bx : List Range) (xs vs : List Fraction) → length highs ≡ length bx → length xs ≡ length bx
@@ -161,44 +159,44 @@ row_den highs ns q =
     All-cons HasPositiveDen (whole (whole_value q ns)) (numbers_from (coefficient_in q) 0 highs) (whole_den (whole_value q ns)) (numbers_den (coefficient_in q) 0 highs)
 
 module _ (P : Problem) (cuts : List Row) (bx : List Range) where
-  ends : List Bool
-  ends = raises P.terms 0 bx
+  highs : List Bool
+  highs = raises P.terms 0 bx
 
-  many : length ends ≡ length bx
-  unfolding ends
+  many : length highs ≡ length bx
+  unfolding highs
   many = length_raises P.terms 0 bx
 
   -- where the inputs are the distances from the corner
-  all_moved : (inputs xs : List Fraction) → length xs ≡ length bx → All HasPositiveDen xs → AllZip IsSame inputs (offsets ends bx xs)
+  all_moved : (inputs xs : List Fraction) → length xs ≡ length bx → All HasPositiveDen xs → AllZip IsSame inputs (offsets highs bx xs)
       → ComeTo (first_table P cuts bx).rows inputs (values_at P cuts bx xs)
-  unfolding ends
+  unfolding highs
   all_moved inputs xs count d same =
-      come_to ends (corner ends bx) (quantities P cuts bx) inputs xs (λ q.
-      (let row = first_row ends (corner ends bx) q in
-      same_trans (affine_value row inputs) (affine_value row (offsets ends bx xs)) (quantity_value xs q)
-      (affine_den row (offsets ends bx xs) (row_den ends (corner ends bx) q) (offsets_den ends bx xs d)) (affine_same row inputs (offsets ends bx xs) same)
-      (row_moved ends bx xs q many count d)))
+      come_to highs (corner highs bx) (quantities P cuts bx) inputs xs (λ q.
+      (let row = first_row highs (corner highs bx) q in
+      same_trans (affine_value row inputs) (affine_value row (offsets highs bx xs)) (quantity_value xs q)
+      (affine_den row (offsets highs bx xs) (row_den highs (corner highs bx) q) (offsets_den highs bx xs d)) (affine_same row inputs (offsets highs bx xs) same)
+      (row_moved highs bx xs q many count d)))
 
   functions : (xs : List Fraction) → IsPoint bx xs → ComeTo (first_table P cuts bx).rows (column_values (first_table P cuts bx).columns (values_at P cuts bx xs)) (values_at P cuts bx xs)
-  unfolding ends
+  unfolding highs
   functions xs is =
       let vs = values_at P cuts bx xs in
-      all_moved (column_values (columns_from 0 ends) vs) xs is.count is.positive
-      (distances 0 ends bx xs vs many is.count (λ j b g.
+      all_moved (column_values (columns_from 0 highs) vs) xs is.count is.positive
+      (distances 0 highs bx xs vs many is.count (λ j b g.
       (let at : j ≡ 0 + j = omega arith in
       let value = bound_value b j (get_or bx j no_range) xs (let e = is.count in omega (arith, e, g)) is.positive in
       subst (λ (n : ℕ). IsSame (entry_of vs (place b n)) (offset b (get_or bx j no_range) (entry_of xs j))) at
       (subst (λ (y : Fraction). IsSame y (offset b (get_or bx j no_range) (entry_of xs j))) (sym (quantity_at (quantity_value xs) P cuts bx b j (whole (pos 0)) no_range g)) value))))
 
   taken : (ys : List Fraction) → length ys ≡ length bx → All HasPositiveDen ys → (xs : List Fraction) × IsPoint bx xs × ComeTo (first_table P cuts bx).rows ys (values_at P cuts bx xs)
-  unfolding ends
+  unfolding highs
   taken ys count d =
-      let xs = point_of ends bx ys in
-      let long = point_long ends bx ys many count in
-      let xd = point_den ends bx ys d in (
+      let xs = point_of highs bx ys in
+      let long = point_long highs bx ys many count in
+      let xd = point_den highs bx ys d in (
         xs,
         record { count = long; positive = xd },
-        all_moved ys xs long xd (all_same_sym (offsets ends bx xs) ys (back ends bx ys many count)),
+        all_moved ys xs long xd (all_same_sym (offsets highs bx xs) ys (back highs bx ys many count)),
       )
 
 -- ---- unit rows

@@ -3,7 +3,6 @@ use Rattle.std.proofs.Common.{◌≡◌, ◌∙◌, refl, sym, ap, subst, ℕ, s
 use Rattle.std.specs.List.{AllZip}
 use Rattle.std.specs.Ordering.{MatchOrdering}
 use Rattle.std.specs.Cmp.{int_ranks}
-use Rattle.std.proofs.lemmas.Int.{ints}
 use Rattle.std.proofs.lemmas.Bool.{cases_order}
 use Rattle.std.proofs.lemmas.List.Elements.{All-cons, All-head, All-nil, All-tail}
 use Rattle.qm_math.specs.Fraction.{Fraction, HasPositiveDen, IsBelow, IsSame}
@@ -13,21 +12,17 @@ use Rattle.qm_math.proofs.FractionLaws.{quotient_of_den, same_sym, same_trans}
 use Rattle.qm_math.proofs.FractionOrder.{below_congr}
 use Rattle.qm_math.proofs.Lexicographic.{IsLexBelow-trans}
 use Rattle.qm_math.proofs.SameLists.{IsLexBelow-same, all_same_refl, all_same_sym}
+use Rattle.qm_math.proofs.WholeTests.{lt_of_test, test_of_lt}
+use Rattle.qm_math.proofs.Magnitudes.{unsigned_abs-above_zero}
 use Rattle.qm_frac.specs.Checked.{divided}
 use Rattle.qm_frac.specs.Order.{fraction_cmp}
-use Rattle.qm_frac.proofs.CheckedLaws.{IsFrac-divided}
+use Rattle.qm_frac.proofs.CheckedLaws.{IsFrac-divided, divided-value}
 use Rattle.qm_tableau.specs.declared.choice.Choice.{Choice}
 use Rattle.qm_tableau.specs.declared.choice.Choice.TheVariants as choice
 use Rattle.qm_tableau.specs.Tables.{Table, entry_of, row_at}
 use Rattle.qm_tableau.specs.Leaving.{Placed, placed, next}
 use Rattle.qm_tableau.specs.Rule.{choice_at, choice_of, chosen, entering_column, greater_column, is_greater, leaving_row}
-use Rattle.qm_tableau.proofs.Exactness.{entry_den, next-ok, not_zero, placed-ok, quotient, same_value}
-
-pub lt_of_test : (a b : ℤ) → int_lt a b ≡ true → a <ℤ b
-lt_of_test a b e = grind (arith, ints)
-
-test_of_lt : (a b : ℤ) → a <ℤ b → int_lt a b ≡ true
-test_of_lt a b h = grind (arith, ints)
+use Rattle.qm_tableau.proofs.Exactness.{entry_den, next-ok, not_zero, placed-ok, same_value}
 
 -- ---- the leaving row
 pub leaving_is : (i : ℕ) (rows : List (List Fraction)) (r : ℕ) → leaving_row i rows ≡ Some r
@@ -91,7 +86,7 @@ module _ (k : ℕ) (p : Fraction) (b : ℕ) (q : Fraction) (p_some : 0 < unsigne
       let x_is : divided m p ≡ Ok x = placed-ok i k (divided m p) x first.1 in
       let y_is : divided n q ≡ Ok y = placed-ok i b (divided n q) y second.1 in
       by_order x y (quotient_of m p) (quotient_of n q) (IsFrac-divided m p x md p_some x_is).positive (IsFrac-divided n q y nd q_some y_is).positive
-      (quotient_of_den m p md (not_zero p.num p_some)) (quotient_of_den n q nd (not_zero q.num q_some)) (quotient m p x x_is) (quotient n q y y_is)
+      (quotient_of_den m p md (not_zero p.num p_some)) (quotient_of_den n q nd (not_zero q.num q_some)) (divided-value m p x x_is) (divided-value n q y y_is)
       (fraction_cmp x y) refl (λ g. compared (suc i) rows r (All-tail (λ (l : List Fraction). All HasPositiveDen l) row rows d) g) second.2
     where
       by_order : (x y u v : Fraction) → 0 < x.den → 0 < y.den → 0 < u.den → 0 < v.den → IsSame x u → IsSame y v
@@ -116,9 +111,6 @@ module _ (k : ℕ) (p : Fraction) (b : ℕ) (q : Fraction) (p_some : 0 < unsigne
           subst (λ (s : Bool). Says s (u ∷ quotients rows k p) (v ∷ quotients rows b q)) (same_value true r g) (inl (below_congr y x v u yd xd vd ud f e above))
 
 -- ---- the greatest column
-some_of : (n : ℤ) → pos 0 <ℤ n → 0 < unsigned_abs n
-some_of n h = omega (arith, ints, h)
-
 module _ (rows : List (List Fraction)) (leaving : List Fraction) (d : All (λ row. All HasPositiveDen row) rows) where
   abbrev IsCandidate : ℕ → Type 0
   IsCandidate j = pos 0 <ℤ (entry_of leaving j).num
@@ -132,7 +124,7 @@ module _ (rows : List (List Fraction)) (leaving : List Fraction) (d : All (λ ro
   IsBest n (Some b) = (1 ≤ b) × (b < n) × IsCandidate b × ((j : ℕ) → 1 ≤ j → j < n → IsCandidate j → IsNotAbove (over_entry j) (over_entry b))
 
   over_den : (j : ℕ) → IsCandidate j → All HasPositiveDen (over_entry j)
-  over_den j h = quotients_den rows j (entry_of leaving j) (some_of (entry_of leaving j).num h) d
+  over_den j h = quotients_den rows j (entry_of leaving j) (unsigned_abs-above_zero (entry_of leaving j).num h) d
 
   moved_up : (j b k : ℕ) → IsCandidate j → IsCandidate b → IsCandidate k → IsNotAbove (over_entry j) (over_entry b) → IsLexBelow (over_entry b) (over_entry k)
       → IsNotAbove (over_entry j) (over_entry k)
@@ -142,11 +134,11 @@ module _ (rows : List (List Fraction)) (leaving : List Fraction) (d : All (λ ro
       (all_same_sym (over_entry j) (over_entry b) same) (all_same_refl (over_entry k)) below)) first
 
   -- column k is compared too
-  one_more : (n b : ℕ) → 1 ≤ b → b < suc n → IsCandidate b
+  compared_up_to : (n b : ℕ) → 1 ≤ b → b < suc n → IsCandidate b
       → ((j : ℕ) → 1 ≤ j → j < n → IsCandidate j → IsNotAbove (over_entry j) (over_entry b))
       → IsNotAbove (over_entry n) (over_entry b)
       → (j : ℕ) → 1 ≤ j → j < suc n → IsCandidate j → IsNotAbove (over_entry j) (over_entry b)
-  one_more n b some below candidate earlier here j from inside jc =
+  compared_up_to n b some below candidate earlier here j from inside jc =
       ⊎_elim (λ e. subst (λ (m : ℕ). IsNotAbove (over_entry m) (over_entry b)) (sym e) here)
       (⊎_elim (λ less. earlier j from less jc) (λ more. absurd (omega (arith, inside, more)))) (cases_order j n)
 
@@ -154,10 +146,10 @@ module _ (rows : List (List Fraction)) (leaving : List Fraction) (d : All (λ ro
   unfolding IsBest Says
   with_candidate k None c from candidate best h =
       subst (λ (m : ℕ). IsBest (suc k) (Some m)) (same_value k c h)
-      (from, omega arith, candidate, one_more k k from (omega arith) candidate (λ j f inside jc. absurd (best j f inside jc)) (inr (all_same_refl (over_entry k))))
+      (from, omega arith, candidate, compared_up_to k k from (omega arith) candidate (λ j f inside jc. absurd (best j f inside jc)) (inr (all_same_refl (over_entry k))))
   with_candidate k (Some b) c from candidate best h =
       let first = next-ok (is_greater k (entry_of leaving k) b (entry_of leaving b) 0 rows) (λ greater. Ok (if greater then k else b)) c h in
-      let says = compared k (entry_of leaving k) b (entry_of leaving b) (some_of (entry_of leaving k).num candidate) (some_of (entry_of leaving b).num best.2) 0 rows first.0 d first.1 in
+      let says = compared k (entry_of leaving k) b (entry_of leaving b) (unsigned_abs-above_zero (entry_of leaving k).num candidate) (unsigned_abs-above_zero (entry_of leaving b).num best.2) 0 rows first.0 d first.1 in
       by_answer first.0 says (same_value (if first.0 then k else b) c first.2)
     where
       by_answer : (g : Bool) → Says g (over_entry k) (over_entry b) → (let z : ℕ = if g then k else b in z) ≡ c → IsBest (suc k) (Some c)
@@ -166,12 +158,12 @@ module _ (rows : List (List Fraction)) (leaving : List Fraction) (d : All (λ ro
             from,
             omega arith,
             candidate,
-            one_more k k from (omega arith) candidate
+            compared_up_to k k from (omega arith) candidate
                 (λ j f inside jc. moved_up j b k jc best.2 candidate (best.3 j f inside jc) says) (inr (all_same_refl (over_entry k))),
           )
       by_answer false says e =
           let below : b < suc k = (let g = best.1 in omega (arith, g)) in
-          subst (λ (m : ℕ). IsBest (suc k) (Some m)) e (best.0, below, best.2, one_more k b best.0 below best.2 best.3 says)
+          subst (λ (m : ℕ). IsBest (suc k) (Some m)) e (best.0, below, best.2, compared_up_to k b best.0 below best.2 best.3 says)
 
   -- column k is no candidate
   without : (k : ℕ) (best : Option ℕ) → (IsCandidate k → ⊥) → IsBest k best → IsBest (suc k) best
@@ -229,9 +221,9 @@ none_first : (rows : List (List Fraction)) (leaving : List Fraction) (d : All (�
 unfolding IsBest
 none_first rows leaving d = λ j from inside c. omega (arith, from, inside)
 
-behind : (row : List Fraction) (j : ℕ) → entry_of (drop 1 row) j ≡ entry_of row (1 + j)
-behind [] j = refl
-behind (t ∷ ts) j = let e : 1 + j ≡ suc j = omega arith in sym (ap (λ (n : ℕ). entry_of (t ∷ ts) n) e)
+pub entry_of-drop : (row : List Fraction) (j : ℕ) → entry_of (drop 1 row) j ≡ entry_of row (1 + j)
+entry_of-drop [] j = refl
+entry_of-drop (t ∷ ts) j = let e : 1 + j ≡ suc j = omega arith in sym (ap (λ (n : ℕ). entry_of (t ∷ ts) n) e)
 
 whole_width : (row : List Fraction) (c : ℕ) → 1 ≤ c → c < 1 + length (drop 1 row) → c < length row
 whole_width [] c from h = absurd (omega (arith, from, h))
@@ -265,7 +257,7 @@ chosen_is t r c d h = by_row (leaving_row 1 (drop 1 t.rows)) refl h
         let leaving = row_at t.rows s in
         let steps = next-ok (entering_column t.rows leaving 1 None (drop 1 leaving)) (λ best. Ok (choice_of s best)) (choice.Pivot r c) g in
         let names = named r c s steps.0 (same_choice (choice_of s steps.0) (choice.Pivot r c) steps.2) in
-        let best = greatest t.rows leaving d (drop 1 leaving) 1 None steps.0 (omega arith) (behind leaving) (none_first t.rows leaving d) steps.1 in
+        let best = greatest t.rows leaving d (drop 1 leaving) 1 None steps.0 (omega arith) (entry_of-drop leaving) (none_first t.rows leaving d) steps.1 in
         let holds : IsBest t.rows leaving d (1 + length (drop 1 leaving)) (Some c) = subst (IsBest t.rows leaving d (1 + length (drop 1 leaving))) names.1 best in
         let row = row_is t.rows s e in
         subst (λ (n : ℕ). IsChosen t n c) names.0

@@ -10,22 +10,22 @@ use Rattle.qm_tableau.specs.FirstTable.{numbers_from, raises}
 use Rattle.qm_tableau.specs.Quantities.{turned}
 
 -- one more item behind those that are done
-pub one_more : {A : Type 0} (done next whole : List A) (x : A) → done ++ x ∷ next ≡ whole → (done ++ x ∷ []) ++ next ≡ whole
-one_more done next all x h = append_assoc done (x ∷ []) next ∙ h
+pub moved_to_done : {A : Type 0} (done next whole : List A) (x : A) → done ++ x ∷ next ≡ whole → (done ++ x ∷ []) ++ next ≡ whole
+moved_to_done done next all x h = append_assoc done (x ∷ []) next ∙ h
 
 pub raises_more : (objective : List Term) (var : ℕ) (d : Range) (bx : List Range) (done all : List Bool) → var < length bx
     → done ++ raises objective var (drop var bx) ≡ all
     → (done ++ int_lt (pos 0) (coefficient objective var) ∷ []) ++ raises objective (var + 1) (drop (var + 1) bx) ≡ all
 raises_more objective var d bx done all h before =
     ap (λ (n : ℕ). (done ++ int_lt (pos 0) (coefficient objective var) ∷ []) ++ raises objective n (drop (var + 1) bx)) (add-one var)
-    ∙ one_more done _ all _ (sym (at_drop_more (λ rs. done ++ raises objective var rs) bx var d h) ∙ before)
+    ∙ moved_to_done done _ all _ (sym (at_drop_more (λ rs. done ++ raises objective var rs) bx var d h) ∙ before)
 
 pub numbers_more : (f : ℕ → ℤ) (var : ℕ) (d : Bool) (highs : List Bool) (done all : List Fraction) → var < length highs
     → done ++ numbers_from f var (drop var highs) ≡ all
     → (done ++ whole (turned (get_or highs var d) (f var)) ∷ []) ++ numbers_from f (var + 1) (drop (var + 1) highs) ≡ all
 numbers_more f var d highs done all h before =
     ap (λ (n : ℕ). (done ++ whole (turned (get_or highs var d) (f var)) ∷ []) ++ numbers_from f n (drop (var + 1) highs)) (add-one var)
-    ∙ one_more done _ all _ (sym (at_drop_more (λ hs. done ++ numbers_from f var hs) highs var d h) ∙ before)
+    ∙ moved_to_done done _ all _ (sym (at_drop_more (λ hs. done ++ numbers_from f var hs) highs var d h) ∙ before)
 
 -- the coefficient among the terms that are left is that among all
 pub raises_step : (objective rest : List Term) (var : ℕ) (d : Range) (bx : List Range) (done now all : List Bool) (c : ℤ) → var < length bx

@@ -1,5 +1,5 @@
 -- A pivot lowers the column of constants.
-use Rattle.std.proofs.Common.{◌≡◌, ◌∙◌, refl, sym, ap, ℕ, zero, suc, ◌-◌, ◌<◌, List, [], ◌∷◌, length, set, arith, All, Ok, ℤ, pos, negsuc, unsigned_abs, ◌≢◌}
+use Rattle.std.proofs.Common.{◌≡◌, ◌∙◌, refl, sym, ap, ℕ, suc, ◌-◌, ◌<◌, List, [], ◌∷◌, length, set, arith, All, Ok, pos, unsigned_abs, ◌≢◌}
 use Rattle.std.specs.List.{AllZip}
 use Rattle.std.proofs.lemmas.List.Elements.{All-cons, All-head, All-nil, All-tail}
 use Rattle.qm_math.specs.Fraction.{Fraction, HasPositiveDen, IsBelow, IsSame, whole}
@@ -12,18 +12,14 @@ use Rattle.qm_math.proofs.Quotients.{above_num, cancel_product_of-below}
 use Rattle.qm_math.proofs.Lexicographic.{IsLexBelow-reduced_row}
 use Rattle.qm_math.proofs.Rows.{reduced_row_den}
 use Rattle.qm_math.proofs.SameLists.{IsLexBelow-same, all_same_refl, all_same_sym}
+use Rattle.qm_math.proofs.Magnitudes.{unsigned_abs-nonzero}
 use Rattle.qm_frac.specs.Checked.{divided, multiplied, subtracted}
-use Rattle.qm_frac.proofs.CheckedLaws.{IsFrac-divided, IsFrac-multiplied, IsFrac-subtracted, and_then-ok}
+use Rattle.qm_frac.proofs.CheckedLaws.{IsFrac-divided, IsFrac-multiplied, IsFrac-subtracted, and_then-ok, divided-value}
 use Rattle.qm_tableau.specs.Tables.{Table, entry_of, row_at}
 use Rattle.qm_tableau.specs.Leaving.{Placed, placed, next}
 use Rattle.qm_tableau.specs.Pivoting.{less_multiple, new_entries, new_entry, new_row, new_rows, pivoted}
 use Rattle.qm_tableau.specs.Columns.{column_at}
-use Rattle.qm_tableau.proofs.Exactness.{entry_den, less-value, next-ok, not_zero, other_entry, placed-ok, quotient, same_value}
-
-pub abs_some : (n : ℤ) → n ≢ pos 0 → 0 < unsigned_abs n
-abs_some (pos zero) h = absurd (h refl)
-abs_some (pos (suc n)) h = omega arith
-abs_some (negsuc n) h = omega arith
+use Rattle.qm_tableau.proofs.Exactness.{entry_den, less-value, next-ok, not_zero, other_entry, placed-ok, same_value}
 
 -- a negative number over a positive one
 pub quotient_below : (a b : Fraction) → 0 < a.den → 0 < b.den → IsBelow a (whole (pos 0)) → IsBelow (whole (pos 0)) b → IsBelow (quotient_of a b) (whole (pos 0))
@@ -37,7 +33,7 @@ quotient_below a b ad bd below above =
     (below_congr a z (product_of b q) (product_of b z) ad zd (product_of_den b q bd qd) (product_of_den b z bd zd)
     (same_sym (product_of b q) a (product_of-quotient_of a b ad bd nz)) (same_sym (product_of b z) z (product_of-zero b)) below)
 
--- a quotient times a number: the two numbers that aren't divided by change places
+-- a divided-value times a number: the two numbers that aren't divided by change places
 pub exchanged : (t p o : Fraction) → 0 < t.den → 0 < o.den → p.num ≢ pos 0 → IsSame (product_of (quotient_of t p) o) (product_of (quotient_of o p) t)
 exchanged t p o td od nz =
     let i = inverse_of p in
@@ -73,7 +69,7 @@ module _ (c : ℕ) (some : 0 < c) (o : Fraction) (os : List Fraction) (p_some : 
       let rest = next-ok (new_entries i c f 1 ts os) (λ ys. Ok (first.0 ∷ ys)) x first.2 in
       let y = first.0 in
       let less : less_multiple t f o ≡ Ok y = other_entry i c f 0 t o y (λ e. omega (arith, some, e)) first.1 in
-      let value : IsSame y (difference_of t (product_of q o)) = less-value t f q o y td fd qd od (quotient a p f f_is) less in
+      let value : IsSame y (difference_of t (product_of q o)) = less-value t f q o y td fd qd od (divided-value a p f f_is) less in
       let parts = and_then-ok (multiplied f o) (λ m. subtracted t m) y less in
       let yd = (IsFrac-subtracted t parts.0 y td (IsFrac-multiplied f o parts.0 fd od parts.1).positive parts.2).positive in
       let head : y ≡ entry_of x 0 = ap (λ (ys : List Fraction). entry_of ys 0) (same_value (y ∷ rest.0) x rest.2) in
@@ -112,7 +108,7 @@ lowered t u r c [] some is long ld count d below above falls h = absurd (omega (
 lowered t u r c (o ∷ os) some is long ld count d below above falls h =
     let p = entry_of (o ∷ os) c in
     let nz = above_num p above in
-    let p_some : 0 < unsigned_abs p.num = abs_some p.num nz in
+    let p_some : 0 < unsigned_abs p.num = unsigned_abs-nonzero p.num nz in
     let after : List (List Fraction) → Placed Table = λ rows. Ok (record { columns = set t.columns (c - 1) r; rows = rows }) in
     let steps = next-ok (new_rows c (row_at t.rows r) 0 t.rows) after u h in
     let made : new_rows c (o ∷ os) 0 t.rows ≡ Ok steps.0 = ap (λ (l : List Fraction). new_rows c l 0 t.rows) is ∙ steps.1 in

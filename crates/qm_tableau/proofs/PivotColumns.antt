@@ -19,6 +19,7 @@ use Rattle.qm_math.proofs.Quotients.{above_num, cancel_product_of-below}
 use Rattle.qm_math.proofs.Lexicographic.{IsLexNegative-from_below, IsLexNegative-reduced_row, IsLexNegative-reduced_row_zero, IsLexNegative-scaled}
 use Rattle.qm_math.proofs.Rows.{get_or-reduced_row, length-reduced_row, reduced_row_den}
 use Rattle.qm_math.proofs.SameLists.{IsLexBelow-same, IsLexNegative-same, all_same_sym}
+use Rattle.qm_math.proofs.Magnitudes.{unsigned_abs-nonzero}
 use Rattle.qm_tableau.specs.Tables.{entry_of, row_at}
 use Rattle.qm_tableau.specs.Columns.{column_at}
 use Rattle.qm_tableau.specs.Exact.{exact_row}
@@ -26,7 +27,7 @@ use Rattle.qm_tableau.specs.Good.{IsUnitRow}
 use Rattle.qm_tableau.proofs.Constants.{zip_at}
 use Rattle.qm_tableau.proofs.Exactness.{entry_den}
 use Rattle.qm_tableau.proofs.Greatest.{IsNotAbove, quotients, quotients_den}
-use Rattle.qm_tableau.proofs.Lowering.{abs_some, column_den, exchanged, quotient_below}
+use Rattle.qm_tableau.proofs.Lowering.{column_den, exchanged, quotient_below}
 
 -- ---- signs
 pub inverse_above : (p : Fraction) → 0 < p.den → IsBelow (whole (pos 0)) p → IsBelow (whole (pos 0)) (inverse_of p)
@@ -208,7 +209,7 @@ lists_below rows k c a p ad pd more above d below =
     let scaled_e = All-map HasPositiveDen (product_of j) os (λ n z h. product_of_den j (get_or os n z) jd (od n z h)) in
     let lists : IsLexBelow (map (product_of i) ks) (map (product_of j) os) =
     IsLexBelow-same (quotients rows k a) (quotients rows c p) (map (product_of i) ks) (map (product_of j) os)
-    (quotients_den rows k a (abs_some a.num (above_num a more)) d) (quotients_den rows c p (abs_some p.num (above_num p above)) d) scaled_d scaled_e
+    (quotients_den rows k a (unsigned_abs-nonzero a.num (above_num a more)) d) (quotients_den rows c p (unsigned_abs-nonzero p.num (above_num p above)) d) scaled_d scaled_e
     (quotients_scaled rows k a) (quotients_scaled rows c p) below in
     let factor : IsSame (product_of i (product_of a j)) j = cancelled a i j ad id jd (product_of-inverse_of a) in
     IsLexNegative-from_below ks i (quotient_of a p) j os id (quotient_of_den a p ad (above_num p above)) jd kd od (inverse_above a ad more) factor lists

@@ -1,7 +1,6 @@
 -- A pivot that the rule names keeps a tableau good.
-use Rattle.std.proofs.Common.{◌≡◌, ◌∙◌, refl, sym, ap, ap₂, subst, ℕ, zero, suc, ◌-◌, ◌<◌, ◌≢◌, ⊎_elim, List, [], ◌∷◌, length, get_or, set, set-set, map, arith, All, Ok, pos, ◌<ℤ◌, unsigned_abs}
+use Rattle.std.proofs.Common.{◌≡◌, ◌∙◌, refl, sym, ap, ap₂, subst, ℕ, zero, suc, ◌-◌, ◌<◌, ◌≢◌, ⊎_elim, List, [], ◌∷◌, length, get_or, set, set-set, map, arith, All, Ok, pos, unsigned_abs}
 use Rattle.std.specs.List.{AllZip}
-use Rattle.std.proofs.lemmas.Int.{ints}
 use Rattle.std.proofs.lemmas.Bool.{cases_eq}
 use Rattle.std.proofs.lemmas.List.{get_or-map, get_or-set_other, get_or-set_same, length-map, length-set}
 use Rattle.std.proofs.lemmas.List.Elements.{All-cons, All-from_get_or, All-get_or, All-head, All-nil, All-set, All-tail, length_all_zip}
@@ -16,6 +15,8 @@ use Rattle.qm_math.proofs.FractionLaws.{difference_of_den, product_of-inverse_of
 use Rattle.qm_math.proofs.Quotients.{above_num}
 use Rattle.qm_math.proofs.Rows.{sum_of_products-set_value, sum_of_products_den}
 use Rattle.qm_math.proofs.SameLists.{all_same_refl}
+use Rattle.qm_math.proofs.Magnitudes.{unsigned_abs-nonzero}
+use Rattle.qm_math.proofs.FractionOrder.{above_of_num, num_of_above, below_of_num}
 use Rattle.qm_frac.specs.Checked.{divided, multiplied, subtracted}
 use Rattle.qm_frac.proofs.CheckedLaws.{IsFrac-divided, IsFrac-multiplied, IsFrac-subtracted, and_then-ok}
 use Rattle.qm_model.specs.declared.range.Range.{Range}
@@ -34,7 +35,7 @@ use Rattle.qm_tableau.proofs.Constants.{affine_den, column_values_den, values_de
 use Rattle.qm_tableau.proofs.Exactness.{entry_den, next-ok, other_entry, own_entry, pivot_exact, placed-ok, same_value}
 use Rattle.qm_tableau.proofs.Greatest.{IsChosen, chosen_is}
 use Rattle.qm_tableau.proofs.Keeping.{pivot_keeps}
-use Rattle.qm_tableau.proofs.Lowering.{abs_some, pivot_lowers}
+use Rattle.qm_tableau.proofs.Lowering.{pivot_lowers}
 use Rattle.qm_tableau.proofs.Moving.{affine_same}
 use Rattle.qm_tableau.proofs.PivotColumns.{all_taken, column_negative, exact_long, exact_other, exact_own, no_quotient, nothing_taken, same_entry}
 
@@ -206,15 +207,6 @@ module _ (c : ℕ) (l : List Fraction) (inside : c < length l) (ld : All HasPosi
       }
 
 -- ---- the tableau after the pivot
-above_of : (p : Fraction) → pos 0 <ℤ p.num → IsBelow (whole (pos 0)) p
-above_of p h = omega (arith, ints, h)
-
-num_of : (p : Fraction) → IsBelow (whole (pos 0)) p → pos 0 <ℤ p.num
-num_of p h = omega (arith, ints, h)
-
-below_of : (p : Fraction) → p.num <ℤ pos 0 → IsBelow p (whole (pos 0))
-below_of p h = omega (arith, ints, h)
-
 module _ (P : Problem) (cuts : List Row) (bx : List Range) (t u : Table) (r c : ℕ) (gt : IsGood P cuts bx t) (ch : IsChosen t r (suc c)) (h : pivoted t r (suc c) ≡ Ok u) where
   abbrev l : List Fraction
   l = row_at t.rows r
@@ -229,13 +221,13 @@ module _ (P : Problem) (cuts : List Row) (bx : List Range) (t u : Table) (r c : 
   within = let i = ch.inside in omega (arith, i, long)
 
   above : IsBelow (whole (pos 0)) (entry_of l (suc c))
-  above = above_of (entry_of l (suc c)) ch.entry
+  above = above_of_num (entry_of l (suc c)) ch.entry
 
   nz : (entry_of l (suc c)).num ≢ pos 0
   nz = above_num (entry_of l (suc c)) above
 
   some : 0 < unsigned_abs (entry_of l (suc c)).num
-  some = abs_some (entry_of l (suc c)).num nz
+  some = unsigned_abs-nonzero (entry_of l (suc c)).num nz
 
   place : suc c - 1 ≡ c
   place = omega arith
@@ -328,7 +320,7 @@ module _ (P : Problem) (cuts : List Row) (bx : List Range) (t u : Table) (r c : 
       let inside : k < length t.columns = omega (arith, below, columns_long) in
       column_negative (suc c) l ch.inside ld above t.rows u.rows same_count gt.positive ud rows (gt.negative c within) (suc k) (get_or t.columns k 0) (omega (arith, inside, long))
       (gt.negative k inside) (gt.named k 0 inside) (λ other. gt.units k inside)
-      (λ more. ch.greatest (suc k) (omega arith) (omega (arith, inside, long)) (num_of (entry_of l (suc k)) more))
+      (λ more. ch.greatest (suc k) (omega arith) (omega (arith, inside, long)) (num_of_above (entry_of l (suc k)) more))
 
   good_after : IsGood P cuts bx u
   good_after = record {
@@ -346,7 +338,7 @@ module _ (P : Problem) (cuts : List Row) (bx : List Range) (t u : Table) (r c : 
 
   lower_after : IsLexBelow (column_at u.rows 0) (column_at t.rows 0)
   lower_after =
-      pivot_lowers t u r (suc c) ch.row (omega arith) gt.width gt.positive (below_of (entry_of l 0) ch.constant) above (gt.negative c within) h
+      pivot_lowers t u r (suc c) ch.row (omega arith) gt.width gt.positive (below_of_num (entry_of l 0) ch.constant) above (gt.negative c within) h
 
 pub pivot_good : (P : Problem) (cuts : List Row) (bx : List Range) (t u : Table) (r c : ℕ) → IsGood P cuts bx t → chosen t ≡ Ok (choice.Pivot r c) → pivoted t r c ≡ Ok u → IsGood P cuts bx u
 pivot_good P cuts bx t u r zero gt is h = absurd (let f = (chosen_is t r zero gt.positive is).from in omega (arith, f))

@@ -1,5 +1,11 @@
-//! Tableaus: quantities of a game, cuts and a box as affine functions of as many of them. The first
-//! tableau, the rule that names the next pivot, and the pivot, each exact to the operation that leaves.
+//! Tableaus: quantities of a game, cuts and a box as affine functions of as many of them, one for each variable.
+//! `first` makes the first one, `Tableau::choose` names the next pivot by the rule of the lexicographic dual method, which
+//! is Gomory's, and `Tableau::pivot` exchanges two quantities. Each answers exactly up to the first operation that leaves
+//! the range, and a pivot that leaves changes nothing.
+//! Clauses cite `Tables` (what contracts see of a tableau), `Quantities` and `FirstTable`, `Rule` (the rule), `Pivoting`,
+//! and `Leaving`, where an operation leaves. The laws cite `Good`, what each tableau of a run keeps: its rows are its
+//! quantities, and its columns are lexicographically negative, so the constants fall from pivot to pivot. `Exact` is the
+//! same without a range.
 #![tactic(auto)]
 
 mod beginning;
@@ -21,6 +27,3 @@ pub use laws::{
 };
 pub use leaves_at::LeavesAt;
 pub use tableau::Tableau;
-
-#[cfg(test)]
-mod tests;

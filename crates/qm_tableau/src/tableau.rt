@@ -78,7 +78,7 @@ impl Tableau {
     }
 
     /// For each column from 1 on, the row whose quantity it belongs to.
-    pub fn columns(&self) -> &[u32]
+    pub fn rows_of_columns(&self) -> &[u32]
         ensures { result.now ≡ self.now.columns }
     {
         self.columns.as_slice()

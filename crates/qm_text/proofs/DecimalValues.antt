@@ -4,6 +4,7 @@ use Rattle.std.specs.Prelude.{Result}
 use Rattle.std.specs.Char.{is_ascii_digit}
 use Rattle.std.specs.List.{list_all}
 use Rattle.std.proofs.lemmas.List.Folds.{list_all-append}
+use Rattle.std.proofs.lemmas.Bool.{and_parts}
 use Rattle.qm_math.specs.Fraction.{Fraction}
 use Rattle.qm_frac.specs.Lowest.{IsInRange}
 use Rattle.qm_frac.specs.Signs.{signed}
@@ -16,7 +17,7 @@ use Rattle.qm_text.specs.DecimalSteps.{IsAnswer, IsValue, decimal_of, with_digit
 use Rattle.qm_text.specs.Reading.{Reads}
 use Rattle.qm_text.proofs.Readings.{reads_ok, reads_leaves}
 use Rattle.qm_text.proofs.Powers.{shifted, stopped_above, stopped_below, zero_in_range, zero_tens}
-use Rattle.qm_text.proofs.Spellings.{all_digits, and_parts, decimal_one, digit_parts}
+use Rattle.qm_text.proofs.Spellings.{all_digits, decimal_one, digit_parts}
 use Rattle.qm_text.proofs.Zeros.{IsSignificant, core_of, few_digits, many_digits, many_more, none_so_far, value_without_first}
 
 -- what is kept of two words of digits

@@ -11,8 +11,8 @@ is_end : (byte : ℕ) → is_byte 10 byte ≡ true → byte ≡ 10
 is_end byte h = grind (arith, nat_tests)
 
 -- the LF at a place of the text is one in what stands behind the start
-behind : (text : List ℕ) (start k : ℕ) → start ≤ k → get_or text k 0 ≡ 10 → is_byte 10 (get_or (drop start text) (k - start) 0) ≡ true
-behind text start k h e =
+line_end_in_rest : (text : List ℕ) (start k : ℕ) → start ≤ k → get_or text k 0 ≡ 10 → is_byte 10 (get_or (drop start text) (k - start) 0) ≡ true
+line_end_in_rest text start k h e =
     let same : start + (k - start) ≡ k = omega arith in
     passes (get_or (drop start text) (k - start) 0) (get_or-drop start text (k - start) 0 ∙ ap (λ j. get_or text j 0) same ∙ e)
 
@@ -26,7 +26,7 @@ line_end_some text start k h first =
     let len = length-drop start text in
     let found = subst (λ t. IsFirstByte (is_byte 10) t (Some k)) (rest_is text start) first in
     let high = found.0.high in (
-      record { low = omega arith; high = omega arith; before = λ j low below e. found.0.before (j - start) (omega arith) (omega arith) (behind text start j low e) },
+      record { low = omega arith; high = omega arith; before = λ j low below e. found.0.before (j - start) (omega arith) (omega arith) (line_end_in_rest text start j low e) },
       sym (get_or-drop start text k 0) ∙ is_end (get_or (drop start text) k 0) found.1,
     )
 
@@ -35,4 +35,4 @@ pub line_end_none : (text : List ℕ) (start : ℕ) → start ≤ length text �
 line_end_none text start h first = λ k low high e.
     let len = length-drop start text in
     let none = subst (λ t. IsFirstByte (is_byte 10) t None) (rest_is text start) first in
-    none (k - start) (omega arith) (omega arith) (behind text start k low e)
+    none (k - start) (omega arith) (omega arith) (line_end_in_rest text start k low e)

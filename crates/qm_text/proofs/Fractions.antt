@@ -3,11 +3,10 @@ use Rattle.std.proofs.Common.{◌≡◌, ◌≢◌, ℕ, zero, suc, ◌<◌, ◌
 use Rattle.std.specs.Prelude.{Result, MatchResult, Option, Some, None}
 use Rattle.std.specs.Option.{SomeIff, ok_or}
 use Rattle.qm_frac.proofs.Terms.{lowest_again, in_range_small}
-use native.Mathlib.Nat.{one-dvd}
 use Rattle.qm_math.specs.Fraction.{Fraction}
 use Rattle.qm_frac.specs.Gcd.{gcd_of}
 use Rattle.qm_frac.specs.Lowest.{IsInRange, lowest}
-use Rattle.qm_frac.proofs.Divisors.{gcd_from_IsGcd}
+use Rattle.qm_frac.proofs.Divisors.{gcd_of-one}
 use Rattle.qm_text.specs.declared.fault.NumberFault.{NumberFault}
 use Rattle.qm_text.specs.declared.fault.NumberFault.TheVariants as fault
 use Rattle.qm_text.specs.Numbers.{SpellsNatural, SpellsWhole, SpellsQuotient, SpellsFraction}
@@ -20,11 +19,8 @@ use Rattle.qm_text.proofs.Slashes.{whole_no_slash, slash_stands, split_one}
 over : ℤ → ℕ → Fraction
 over n d = record { num = n; den = d }
 
-pub gcd_one : (n : ℕ) → gcd_of n 1 ≡ 1
-gcd_one n = gcd_from_IsGcd n 1 1 (one-dvd n, one-dvd 1, λ d p q. q)
-
-not_both : (word : List ℕ) (z : ℤ) (a : Fraction) → SpellsWhole word z → ¬ SpellsQuotient word a
-not_both word z a whole q = slash_stands q.above q.below (subst HasNoSlash q.parts (whole_no_slash word z whole))
+whole_is_no_quotient : (word : List ℕ) (z : ℤ) (a : Fraction) → SpellsWhole word z → ¬ SpellsQuotient word a
+whole_is_no_quotient word z a whole q = slash_stands q.above q.below (subst HasNoSlash q.parts (whole_no_slash word z whole))
 
 quotient_one : (word : List ℕ) (v w : Fraction) → SpellsQuotient word v → SpellsQuotient word w → v ≡ w
 quotient_one word v w p q =
@@ -35,8 +31,8 @@ quotient_one word v w p q =
 
 pub fraction_one : (word : List ℕ) (v w : Fraction) → SpellsFraction word v → SpellsFraction word w → v ≡ w
 fraction_one word v w (inl p) (inl q) = ap₂ (λ (n : ℤ) (d : ℕ). record { num = n; den = d }) (whole_one word v.num w.num p.0 q.0) (p.1 ∙ sym q.1)
-fraction_one word v w (inl p) (inr q) = absurd (not_both word v.num w p.0 q.0)
-fraction_one word v w (inr p) (inl q) = absurd (not_both word w.num v q.0 p.0)
+fraction_one word v w (inl p) (inr q) = absurd (whole_is_no_quotient word v.num w p.0 q.0)
+fraction_one word v w (inr p) (inl q) = absurd (whole_is_no_quotient word w.num v q.0 p.0)
 fraction_one word v w (inr p) (inr q) = quotient_one word v w p.0 q.0
 
 -- ---- a whole number
@@ -65,7 +61,7 @@ over_one_ok word n (Ok r) h is =
     let small : SmallWhole n = subst SmallWhole (sym read.3) read.2 in
     rw is.0 (reads_ok (SpellsFraction word) IsInRange (λ a. a) (fraction_one word) (record { num = n; den = 1 }) (inl (spells, refl))
     (record { num_fits = small; den_fits = omega arith }))
-over_one_ok word n (Err e) h is = absurd (is.1 (gcd_one (unsigned_abs n)))
+over_one_ok word n (Err e) h is = absurd (is.1 (gcd_of-one (unsigned_abs n)))
 
 -- ---- a quotient
 

@@ -7,7 +7,9 @@ use Rattle.std.proofs.lemmas.Bool.Decides.{nat_tests}
 use Rattle.std.proofs.lemmas.List.{append-nil, length-drop, drop_all, take_all, take-append-drop}
 use Rattle.std.proofs.lemmas.List.Folds.{list_all-append}
 use Rattle.std.proofs.Math.Seq.{drop-cons}
+use Rattle.std.proofs.lemmas.Bool.{and_parts, cases_Bool}
 use Rattle.memchr.specs.Find.{IsFirstByte, is_byte, is_byte2}
+use Rattle.qm_math.proofs.Lists.{cons-first, cons-rest}
 use Rattle.qm_frac.specs.Signs.{signed}
 use Rattle.qm_text.specs.Digits.{are_digits, is_numeral, value_of}
 use Rattle.qm_text.specs.Decimals.{Decimal, SpellsDecimal, SpellsDigits, SpellsExponent, SpellsPower}
@@ -18,10 +20,6 @@ use Rattle.qm_text.proofs.Cuts.{point_no_digit, e_no_digit, digits_none, join_no
 
 pub all_digits : (word : List ℕ) → IsTrue (is_numeral word) → are_digits word ≡ true
 all_digits word h = grind arith
-
-pub and_parts : (a b : Bool) → a && b ≡ true → (a ≡ true) × (b ≡ true)
-and_parts true b e = (refl, e)
-and_parts false b e = absurd cc
 
 pub digit_parts : (before behind : List ℕ) → are_digits (before ++ behind) ≡ true → (are_digits before ≡ true) × (are_digits behind ≡ true)
 digit_parts before behind h = and_parts (are_digits before) (are_digits behind) (sym (list_all-append is_ascii_digit before behind) ∙ h)
@@ -82,12 +80,6 @@ numeral_first sign (byte ∷ word) h other e =
     let same : is_ascii_digit byte ≡ false = ap is_ascii_digit e ∙ other in
     cc (first, same)
 
-behind_byte : (x y : ℕ) (one other : List ℕ) → x ∷ one ≡ y ∷ other → one ≡ other
-behind_byte x y one other e = cc e
-
-first_byte : (x y : ℕ) (one other : List ℕ) → x ∷ one ≡ y ∷ other → x ≡ y
-first_byte x y one other e = cc e
-
 pub power_some : (word digits : List ℕ) (minus : Bool) → IsSigned word minus digits → IsTrue (is_numeral digits) → SpellsPower word (signed minus (value_of digits))
 power_some word digits minus (inl p) h = (digits, h, inl (p.1, ap (λ (b : Bool). signed b (value_of digits)) p.0))
 power_some word digits minus (inr (inl p)) h = (digits, h, inr (inl p.1, ap (λ (b : Bool). signed b (value_of digits)) p.0))
@@ -108,11 +100,11 @@ known minus sign rest digits n p q h e =
     (subst (λ (w : List ℕ). IsTrue (is_numeral w)) q h, e ∙ ap₂ (λ (b : Bool) (w : List ℕ). signed b (value_of w)) (sym p) q)
 
 sign_known : (word rest digits : List ℕ) (minus : Bool) (n : ℤ) → IsSigned word minus rest → IsTrue (is_numeral digits) → Shape word digits n → Known minus rest n
-sign_known word rest digits minus n (inl p) h (inl q) = known minus true rest digits n p.0 (behind_byte 45 45 digits rest (sym q.0 ∙ p.1)) h q.1
-sign_known word rest digits minus n (inl p) h (inr (inl q, e)) = let differ = first_byte 45 43 rest digits (sym p.1 ∙ q) in absurd (omega arith)
+sign_known word rest digits minus n (inl p) h (inl q) = known minus true rest digits n p.0 (cons-rest 45 45 digits rest (sym q.0 ∙ p.1)) h q.1
+sign_known word rest digits minus n (inl p) h (inr (inl q, e)) = let differ = cons-first 45 43 rest digits (sym p.1 ∙ q) in absurd (omega arith)
 sign_known word rest digits minus n (inl p) h (inr (inr q, e)) = absurd (digits_no_sign 45 rest digits h refl (sym q ∙ p.1))
-sign_known word rest digits minus n (inr (inl p)) h (inl q) = let differ = first_byte 43 45 rest digits (sym p.1 ∙ q.0) in absurd (omega arith)
-sign_known word rest digits minus n (inr (inl p)) h (inr (inl q, e)) = known minus false rest digits n p.0 (behind_byte 43 43 digits rest (sym q ∙ p.1)) h e
+sign_known word rest digits minus n (inr (inl p)) h (inl q) = let differ = cons-first 43 45 rest digits (sym p.1 ∙ q.0) in absurd (omega arith)
+sign_known word rest digits minus n (inr (inl p)) h (inr (inl q, e)) = known minus false rest digits n p.0 (cons-rest 43 43 digits rest (sym q ∙ p.1)) h e
 sign_known word rest digits minus n (inr (inl p)) h (inr (inr q, e)) = absurd (digits_no_sign 43 rest digits h refl (sym q ∙ p.1))
 sign_known word rest digits minus n (inr (inr p)) h (inl q) = absurd (p.2 (ap (λ (w : List ℕ). get_or w 0 0) q.0))
 sign_known word rest digits minus n (inr (inr p)) h (inr (inl q, e)) = absurd (p.3 (ap (λ (w : List ℕ). get_or w 0 0) q))
@@ -146,7 +138,7 @@ exponent_one word m n (inr p) (inl q) = let byte = exponent_byte word p.0 p.1 in
 exponent_one word m n (inr p) (inr q) =
     let one = exponent_byte word p.0 p.1 in
     let other = exponent_byte word q.0 q.1 in
-    let same = behind_byte one.0 other.0 p.0 q.0 (sym one.1 ∙ other.1) in
+    let same = cons-rest one.0 other.0 p.0 q.0 (sym one.1 ∙ other.1) in
     power_one q.0 m n (subst (λ (w : List ℕ). SpellsPower w m) same p.2) q.2
 
 exponent_from : (word : List ℕ) (n : ℤ) → SpellsExponent word n → IsFrom (is_byte2 101 69) word
@@ -247,13 +239,9 @@ match_map : {T : Type 0} (r : Option T) (P Q : Type 0) (A B : T → Type 0) → 
 match_map {T} (Some x) P Q A B f g h = g x h
 match_map {T} None P Q A B f g h = f h
 
-true_or : (b : Bool) → (b ≡ true) ⊎ (b ≡ false)
-true_or true = inl refl
-true_or false = inr refl
-
 -- a byte that is one of two
 pub one_of_two : (byte one other : ℕ) → (byte == one) || (byte == other) ≡ true → (byte ≡ one) ⊎ (byte ≡ other)
-one_of_two byte one other is = elim (true_or (byte == one)) [
+one_of_two byte one other is = elim (cases_Bool (byte == one)) [
   | inl e ↦ inl (eqb-true byte one e)
   | inr e ↦ inr (eqb-true byte other (rw e at is))
 ]
@@ -266,7 +254,7 @@ power_of : (back word : List ℕ) (byte : ℕ) (n : ℤ) → back ≡ byte ∷ w
 power_of back word byte n e (inl p) = let none : [] ≡ byte ∷ word = sym p.0 ∙ e in cc none
 power_of back word byte n e (inr p) =
     let own = exponent_byte back p.0 p.1 in
-    subst (λ (w : List ℕ). SpellsPower w n) (behind_byte own.0 byte p.0 word (sym own.1 ∙ e)) p.2
+    subst (λ (w : List ℕ). SpellsPower w n) (cons-rest own.0 byte p.0 word (sym own.1 ∙ e)) p.2
 
 pub exponent_of_power : {T : Type 0} (back word : List ℕ) (byte : ℕ) (r : Option T) (value : T → ℤ) (K : T → Type 0) → IsFrom (is_byte2 101 69) back → back ≡ byte ∷ word
     → MatchOption r ((n : ℤ) → ¬ SpellsPower word n) (λ x. SpellsPower word (value x) × K x) → MatchOption r ((n : ℤ) → ¬ SpellsExponent back n) (λ x. SpellsExponent back (value x) × K x)

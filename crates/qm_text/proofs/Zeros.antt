@@ -170,16 +170,16 @@ digit_step digits s digit false e is =
       value = whole ∙ (let z : value_of (core_of (digits ++ digit ∷ [])) ≡ value_of (core_of (digits ++ digit ∷ [])) * 1 = omega arith in z);
     }
 
-one_more : (digits : List ℕ) (s : Significant) (digit : ℕ) → IsSignificant digits s → IsSignificant (digits ++ digit ∷ []) (with_digit s digit)
+significant_digit_more : (digits : List ℕ) (s : Significant) (digit : ℕ) → IsSignificant digits s → IsSignificant (digits ++ digit ∷ []) (with_digit s digit)
 unfolding with_digit
-one_more digits s digit is = digit_step digits s digit (eqb digit 48) refl is
+significant_digit_more digits s digit is = digit_step digits s digit (eqb digit 48) refl is
 
 pub many_more : (digits more : List ℕ) (s : Significant) → IsSignificant digits s → IsSignificant (digits ++ more) (with_digits s more)
 unfolding with_digits
 many_more digits [] s is = subst (λ ds. IsSignificant ds s) (sym (append-nil digits)) is
 many_more digits (digit ∷ more) s is =
     subst (λ ds. IsSignificant ds (with_digits (with_digit s digit) more)) (append_assoc digits (digit ∷ []) more)
-    (many_more (digits ++ digit ∷ []) more (with_digit s digit) (one_more digits s digit is))
+    (many_more (digits ++ digit ∷ []) more (with_digit s digit) (significant_digit_more digits s digit is))
 
 -- one digit more of those that are left
 pub with_digits-drop : (s : Significant) (digits : List ℕ) (i : ℕ) → i < length digits → with_digits (with_digit s (get_or digits i 0)) (drop (i + 1) digits) ≡ with_digits s (drop i digits)

@@ -1,5 +1,5 @@
 -- Which answers there are.
-use Rattle.std.proofs.Common.{◌≡◌, ◌⊎◌, ◌<◌, ◌-◌, ◌^◌, ◌≤◌, ℕ, ℤ, pos, List, ◌++◌, Option, Some, None, Result, Ok, Err, IfOk, append-nil, inl, inr, arith, length, length-append, ap, subst, sym, ◌∙◌, unsigned_abs}
+use Rattle.std.proofs.Common.{◌≡◌, ◌⊎◌, ◌<◌, ◌-◌, ◌^◌, ◌≤◌, ℕ, List, ◌++◌, Option, Some, None, Result, Ok, Err, IfOk, append-nil, inl, inr, arith, length, length-append, ap, subst, sym, ◌∙◌}
 use Rattle.std.specs.Prelude.{codes}
 use Rattle.std.specs.Io.KnownBytes.{Consumes, IsAtEnd}
 use Rattle.qm_model.specs.declared.game.Problem.{Problem}
@@ -29,6 +29,9 @@ use Rattle.qm_top.specs.declared.report.Report.{Report}
 use Rattle.qm_top.specs.FaultLines.{TellsNormal}
 use Rattle.qm_top.specs.Refusals.{Refuses, beyond}
 use Rattle.qm_top.specs.Report.{status_of, text_of}
+use Rattle.qm_top.specs.Stating.{IsStated}
+use Rattle.qm_top.specs.declared.stated.Stated.{Stated}
+use Rattle.qm_top.specs.declared.stated.Stated.TheVariants as stating
 use Rattle.qm_top.proofs.Refusals.{AreSame, not_refused, one_refusal}
 
 -- a fact of the value in an Ok leads to another
@@ -133,12 +136,20 @@ told_form ast (normal.Wide which) status text given tells = given
 told_form ast normal.Memory status text given tells = absurd tells
 
 pub refused_beyond : (bytes : List ℕ) (tokens : List Token) (ast : Ast) (fault : NormalFault) → AreTokens bytes tokens → IsParsed bytes tokens (Ok ast) → Gives (Err fault) (normal_form ast)
-    → (status : ℕ) (text : List ℕ) → TellsNormal fault status text → SolvesText bytes status text
-refused_beyond bytes tokens ast fault cut parsed given status text tells = refused (beyond tokens ast fault cut parsed (told_form ast fault status text given tells) tells)
+    → (status : ℕ) (text : List ℕ) → TellsNormal fault status text → Refuses bytes status text
+refused_beyond bytes tokens ast fault cut parsed given status text tells = beyond tokens ast fault cut parsed (told_form ast fault status text given tells) tells
 
-pub stated_by : (bytes : List ℕ) (tokens : List Token) (ast : Ast) (P : Problem) → AreTokens bytes tokens → IsParsed bytes tokens (Ok ast) → normal_form ast ≡ Ok P
+-- what bytes come to, where they are lent
+lent : (bytes others : List ℕ) (told case : Stated) → others ≡ bytes → told ≡ case → IsStated others told → IsStated bytes case
+lent bytes others told case same is states = subst (λ t. IsStated bytes t) is (subst (λ bs. IsStated bs told) same states)
+
+-- what is answered about bytes, by what they come to
+pub refused_answered : (bytes others : List ℕ) (told : Stated) (report : Report) → others ≡ bytes → told ≡ stating.Refused report → IsStated others told → SolvesText bytes (status_of report) (text_of report)
+refused_answered bytes others told report same is states = refused (lent bytes others told (stating.Refused report) same is states)
+
+pub game_answered : (bytes others : List ℕ) (told : Stated) (P : Problem) → others ≡ bytes → told ≡ stating.Game P → IsStated others told
     → (status : ℕ) (text : List ℕ) → SolvesProblem P status text → SolvesText bytes status text
-stated_by bytes tokens ast P cut parsed is status text solves = stated P (record { tokens = tokens; cut = cut; ast = ast; parsed = parsed; normal = is }) solves
+game_answered bytes others told P same is states status text solves = stated P (lent bytes others told (stating.Game P) same is states) solves
 
 -- a report, by its status and its text
 abbrev pub Reports : (ℕ → List ℕ → Type 0) → Report → Type 0

@@ -4,7 +4,7 @@ use Rattle.std.specs.Prelude.{codes}
 use Rattle.qm_lex.specs.declared.token.Token.{Token}
 use Rattle.qm_lex.specs.Places.{place_of}
 use Rattle.qm_lex.specs.Texts.{AreTokens}
-use Rattle.qm_lex.proofs.Reached.{not_both, one_bad}
+use Rattle.qm_lex.proofs.Reached.{tokens_have_no_bad_byte, one_bad}
 use Rattle.qm_model.specs.declared.game.Problem.{Problem}
 use Rattle.qm_parse.specs.declared.ast.Ast.{Ast}
 use Rattle.qm_parse.specs.declared.fault.ParseFault.{ParseFault}
@@ -64,7 +64,7 @@ normal_once (normal.Wide which) status other text another is so = both_told _ _ 
 normal_once normal.Memory status other text another is so = absurd is
 
 pub not_refused : OneDecimal → (bytes : List ℕ) (P : Problem) (status : ℕ) (text : List ℕ) → States bytes P → Refuses bytes status text → ⊥
-not_refused law bytes P status text stated (bad_byte at bad is line) = not_both bytes stated.tokens at stated.cut bad
+not_refused law bytes P status text stated (bad_byte at bad is line) = tokens_have_no_bad_byte bytes stated.tokens at stated.cut bad
 not_refused law bytes P status text stated (unread tokens fault cut parsed is line) =
     let same : Ok stated.ast ≡ Err fault =
     one_reading law bytes stated.tokens tokens (Ok stated.ast) (Err fault) stated.cut cut stated.parsed parsed (tree_told stated.ast) (told_parse fault text line) in
@@ -99,15 +99,15 @@ one_form law bytes tokens others ast tree fault other cut parsed is also read so
 pub one_refusal : OneDecimal → (bytes : List ℕ) (status other : ℕ) (text another : List ℕ) → Refuses bytes status text → Refuses bytes other another → AreSame status other text another
 one_refusal law bytes status other text another (bad_byte at bad is line) (bad_byte place worse so told) =
     (is ∙ sym so, line ∙ ap (λ n. text_line (place_of bytes n) (codes "byte" ∷ [])) (one_bad bytes at place bad worse) ∙ sym told)
-one_refusal law bytes status other text another (bad_byte at bad is line) (unread tokens fault cut parsed so told) = absurd (not_both bytes tokens at cut bad)
-one_refusal law bytes status other text another (bad_byte at bad is line) (beyond tokens ast fault cut parsed so told) = absurd (not_both bytes tokens at cut bad)
-one_refusal law bytes status other text another (unread tokens fault cut parsed is line) (bad_byte at bad so told) = absurd (not_both bytes tokens at cut bad)
+one_refusal law bytes status other text another (bad_byte at bad is line) (unread tokens fault cut parsed so told) = absurd (tokens_have_no_bad_byte bytes tokens at cut bad)
+one_refusal law bytes status other text another (bad_byte at bad is line) (beyond tokens ast fault cut parsed so told) = absurd (tokens_have_no_bad_byte bytes tokens at cut bad)
+one_refusal law bytes status other text another (unread tokens fault cut parsed is line) (bad_byte at bad so told) = absurd (tokens_have_no_bad_byte bytes tokens at cut bad)
 one_refusal law bytes status other text another (unread tokens fault cut parsed is line) (unread others worse also read so told) =
     let same : worse ≡ fault = one_fault law bytes others tokens worse fault another text also read told cut parsed line in
     (is ∙ sym so, parse_once fault text another line (subst (λ f. TellsParse f another) same told))
 one_refusal law bytes status other text another (unread tokens fault cut parsed is line) (beyond others ast worse also read so told) =
     absurd (not_both_read law bytes tokens others fault ast text cut parsed line also read)
-one_refusal law bytes status other text another (beyond tokens ast fault cut parsed is line) (bad_byte at bad so told) = absurd (not_both bytes tokens at cut bad)
+one_refusal law bytes status other text another (beyond tokens ast fault cut parsed is line) (bad_byte at bad so told) = absurd (tokens_have_no_bad_byte bytes tokens at cut bad)
 one_refusal law bytes status other text another (beyond tokens ast fault cut parsed is line) (unread others worse also read so told) =
     absurd (not_both_read law bytes others tokens worse ast another also read told cut parsed)
 one_refusal law bytes status other text another (beyond tokens ast fault cut parsed is line) (beyond others tree worse also read so told) =

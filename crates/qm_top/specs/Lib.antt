@@ -3,5 +3,6 @@ pub mod Lines
 pub mod FaultLines
 pub mod Refusals
 pub mod Report
+pub mod Stating
 pub mod Built
 pub mod Answers

@@ -1,5 +1,11 @@
-//! The top call: it reads its words, does what they ask for, and writes one report.
-//! What may be answered is one relation of words, input, status and text (`specs/Answers.antt`).
+//! The top call: `run` reads its words, does what they ask for, and writes one report to its sink.
+//! It needs sources and a sink of which nothing is known but that they pass bytes and count their faults. It answers the
+//! exit status; the sink took exactly the text that goes with it, or failed and took a part of one.
+//! What may be answered is one relation of words, input, status and text (`specs/Answers.antt`): a certificate that passes
+//! the judgement of `qm_certfile` and what it claims is how the problem ends, or the line of `specs/FaultLines.antt` that
+//! says why there is no problem (`specs/Refusals.antt`) or no answer.
+//! `stated_by` is its first half alone: the game that a text states, or the report that refuses it
+//! (`specs/Stating.antt`). Text, tokens and syntax tree are gone when the search begins.
 #![tactic(auto)]
 
 mod built;
@@ -9,13 +15,13 @@ mod laws;
 mod refusal;
 mod report;
 mod solve;
+mod stated;
 mod top;
 
 pub use laws::{
     a_long_problem_is_told, a_refused_text_is_told, a_stated_problem_is_answered,
     what_is_told_is_answered,
 };
+pub use report::Report;
+pub use stated::{Stated, stated_by};
 pub use top::run;
-
-#[cfg(test)]
-mod tests;

@@ -9,7 +9,7 @@ use Rattle.qm_math.specs.Fraction.{Fraction, whole, IsSame}
 use Rattle.qm_math.specs.Arithmetic.{sum_of, quotient_of}
 use Rattle.qm_math.specs.Over.{over}
 use Rattle.qm_math.proofs.Whole.{scaled_le}
-use Rattle.qm_math.proofs.FractionLaws.{same_refl, same_sym, same_trans, sum_of-same, whole_den, sum_of_den, quotient_of-same}
+use Rattle.qm_math.proofs.FractionLaws.{same_refl, same_sym, same_trans, sum_of-same, whole_den, sum_of_den, quotient_of-same, whole_quotient_den}
 use Rattle.qm_math.proofs.Over.{sum_of-over, whole-over, over-at_most-whole, whole-at_most-over, quotient_of-over}
 use Rattle.qm_model.specs.declared.range.Range.{Range}
 use Rattle.qm_model.specs.declared.row.Row.{Row}
@@ -29,7 +29,7 @@ use Rattle.qm_trees.specs.declared.combination.Entry.{Entry}
 use Rattle.qm_trees.specs.Entries.{Combination, IsPositive, Weighted, row_named, weighted_rows, with_row}
 use Rattle.qm_trees.specs.Closing.{Closes}
 use Rattle.qm_trees.specs.BoxPoints.{BeginIn, IsInBox, HoldsAt, form_of, objective_of}
-use Rattle.qm_trees.proofs.CombinationSound.{closes_refutes, whole_quotient_den}
+use Rattle.qm_trees.proofs.CombinationSound.{closes_refutes}
 use Rattle.qm_trees.proofs.Multipliers.{weighted_dens, weighted_not_negative}
 use Rattle.qm_trees.proofs.RowsOver.{HoldsAt-over, form_of-over, form_of-over_den}
 

@@ -4,10 +4,12 @@ use Rattle.std.specs.Prelude.{Any as Some, ◌↔◌, IsOk, if◌then◌else◌}
 use Rattle.std.specs.List.{list_any}
 use Rattle.std.proofs.lemmas.Int.{ints}
 use Rattle.std.proofs.lemmas.List.Folds.{Any-from_list_any, list_any-from_Any}
+use Rattle.std.proofs.lemmas.Bool.{both_ways}
 use Rattle.qm_math.specs.Fraction.{Fraction, IsAtMost, IsBelow, is_below, is_at_most}
 use Rattle.qm_math.proofs.Compare.{at_most_trans, below_at_most, at_most_below, below_at_most_weak}
 use Rattle.qm_math.proofs.FractionLaws.{same_refl}
 use Rattle.qm_math.proofs.FractionOrder.{at_most_congr, below_congr, not_at_most_below}
+use Rattle.qm_math.proofs.WholeTests.{lt_of_test, test_of_lt}
 use Rattle.qm_frac.specs.Checked.{Checked, and_then}
 use Rattle.qm_frac.proofs.CheckedLaws.{and_then-ok}
 use Rattle.qm_model.specs.declared.range.Range.{Range}
@@ -21,7 +23,7 @@ use Rattle.qm_trees.specs.Evaluation.{right_side, least_combined, bound_of, valu
 use Rattle.qm_trees.specs.Closing.{Excludes, Closes, closes_goal, is_empty_range, closing}
 use Rattle.qm_trees.proofs.CombinationSound.{bound_of_den}
 use Rattle.qm_trees.proofs.CombinationValues.{IsExact, Says, Bounds, says, bounds, below_true, below_false}
-use Rattle.qm_trees.proofs.Lines.{lt_of_test, test_of_lt, bind_ok}
+use Rattle.qm_trees.proofs.Lines.{bind_ok}
 
 most_true : (a b : Fraction) → is_at_most a b ≡ true → IsAtMost a b
 most_true a b e = grind (arith, ints)
@@ -64,21 +66,18 @@ module _ (P : Problem) (ws : List Weighted) (bx : List Range) (dens : All (λ (w
 
 -- ---- empty ranges
 
-empty_at : (bx : List Range) → list_any is_empty_range bx ≡ true → Some IsEmptyRange bx
-empty_at bx e = let p = Any-from_list_any is_empty_range bx e in (p.0, p.1, p.2, p.3, lt_of_test p.1.high p.1.low p.4)
+pub some_empty : (bx : List Range) → list_any is_empty_range bx ≡ true → Some IsEmptyRange bx
+some_empty bx e = let p = Any-from_list_any is_empty_range bx e in (p.0, p.1, p.2, p.3, lt_of_test p.1.high p.1.low p.4)
 
-empty_from : (bx : List Range) → Some IsEmptyRange bx → list_any is_empty_range bx ≡ true
-empty_from bx p = list_any-from_Any is_empty_range bx (p.0, p.1, p.2, p.3, test_of_lt p.1.high p.1.low p.4)
+pub some_empty_test : (bx : List Range) → Some IsEmptyRange bx → list_any is_empty_range bx ≡ true
+some_empty_test bx p = list_any-from_Any is_empty_range bx (p.0, p.1, p.2, p.3, test_of_lt p.1.high p.1.low p.4)
 
 -- ---- the test
-
-pub not_both : (A : Type 0) (b : Bool) → b ≡ true → b ≡ false → A
-not_both A b e f = absurd (cc)
 
 answered : (P : Problem) (objective : Bool) (ws : List Weighted) (bx : List Range) (G : Goal) → All (λ (w : Weighted). 0 < w.by.den) ws → pos 1 ≤ℤ P.scale → IsProper G
     → (empty : Bool) → list_any is_empty_range bx ≡ empty → (b : Bool)
     → (if empty then Ok true else and_then (value_of P objective ws bx) (λ v. let z : Checked Bool = Ok (closes_goal G v) in z)) ≡ Ok b → IsAnswer (Closes P objective ws bx G) b
-answered P objective ws bx G dens scale proper true e b h = subst (IsAnswer (Closes P objective ws bx G)) (ok_bool true b h) (inl (empty_at bx e))
+answered P objective ws bx G dens scale proper true e b h = subst (IsAnswer (Closes P objective ws bx G)) (ok_bool true b h) (inl (some_empty bx e))
 answered P objective ws bx G dens scale proper false e b h =
     let p = and_then-ok (value_of P objective ws bx) (λ v. let z : Checked Bool = Ok (closes_goal G v) in z) b h in
     either b (subst (IsAnswer (Excludes P objective ws bx G)) (ok_bool (closes_goal G p.0) b p.2) (value_answer P ws bx dens scale objective G p.0 proper p.1))
@@ -88,7 +87,7 @@ answered P objective ws bx G dens scale proper false e b h =
     either false h = neither h
       where
         neither : (Excludes P objective ws bx G → ⊥) → Closes P objective ws bx G → ⊥
-        neither h (inl empty) = not_both ⊥ (list_any is_empty_range bx) (empty_from bx empty) e
+        neither h (inl empty) = both_ways (list_any is_empty_range bx) e (some_empty_test bx empty)
         neither h (inr excludes) = h excludes
 
 closing_answer : (P : Problem) (objective : Bool) (ws : List Weighted) (bx : List Range) (G : Goal) (b : Bool) → All (λ (w : Weighted). 0 < w.by.den) ws → pos 1 ≤ℤ P.scale → IsProper G

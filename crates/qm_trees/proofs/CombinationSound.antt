@@ -1,5 +1,5 @@
 -- A combination with multipliers that are not negative says true things of each point of the box where its rows hold.
-use Rattle.std.proofs.Common.{◌≡◌, refl, sym, ap, ℕ, zero, suc, length, get_or, ◌<◌, List, [], ◌∷◌, All, arith, ℤ, pos, negsuc, ◌≤ℤ◌, subst, ◌≢◌, Bool, true, false, inl, inr}
+use Rattle.std.proofs.Common.{◌≡◌, refl, sym, ap, ℕ, zero, suc, length, get_or, ◌<◌, List, [], ◌∷◌, All, arith, ℤ, pos, negsuc, ◌≤ℤ◌, subst, Bool, true, false, inl, inr}
 use Rattle.std.specs.Prelude.{Any as Some}
 use Rattle.std.proofs.lemmas.List.Elements.{All-head, All-tail}
 use Rattle.std.proofs.lemmas.Int.{ints}
@@ -11,10 +11,11 @@ use Rattle.qm_math.proofs.Polynomials.{number, ◌⊕◌, ◌⊗◌, minus}
 use Rattle.qm_math.proofs.Ring.{x0, x1, x2, x3, x4, x5, x6}
 use Rattle.qm_math.proofs.FractionRing.{den_of, same_from}
 use Rattle.qm_math.proofs.Compare.{at_most_trans, below_at_most}
-use Rattle.qm_math.proofs.FractionLaws.{same_sym, whole_den, sum_of_den, difference_of_den, product_of_den, inverse_of_den, quotient_of_den, product_of_comm}
+use Rattle.qm_math.proofs.FractionLaws.{same_sym, whole_den, sum_of_den, difference_of_den, product_of_den, inverse_of_den, product_of_comm, whole_quotient_den}
 use Rattle.qm_math.proofs.FractionOrder.{at_most_refl, at_most-same, at_most_congr, not_at_most_below, sum_of-at_most, difference_of-at_most, product_of-at_most, num_nonneg}
 use Rattle.qm_math.proofs.FractionLinear.{at_most_given}
 use Rattle.qm_math.proofs.Ends.{least_multiple-at_most}
+use Rattle.qm_math.proofs.Magnitudes.{nonzero-one_le}
 use Rattle.qm_model.specs.declared.range.Range.{Range}
 use Rattle.qm_model.specs.declared.row.Row.{Row}
 use Rattle.qm_model.specs.declared.game.Problem.{Problem}
@@ -213,19 +214,13 @@ unfolding inverse_of
 inverse_nonneg (pos n) h = omega (arith, ints)
 inverse_nonneg (negsuc n) h = absurd (omega (arith, ints, h))
 
-not_zero : (n : ℤ) → pos 1 ≤ℤ n → n ≢ pos 0
-not_zero n h e = omega (arith, ints, e, h)
-
 pub quotient_of-at_most : (a b : Fraction) (n : ℤ) → pos 1 ≤ℤ n → 0 < a.den → 0 < b.den → IsAtMost a b → IsAtMost (quotient_of a (whole n)) (quotient_of b (whole n))
 quotient_of-at_most a b n scale ha hb h =
     let k = inverse_of (whole n) in
-    let k_den = inverse_of_den (whole n) (not_zero n scale) in
+    let k_den = inverse_of_den (whole n) (nonzero-one_le n scale) in
     at_most_congr (product_of k a) (product_of k b) (product_of a k) (product_of b k)
     (product_of_den k a k_den ha) (product_of_den k b k_den hb) (product_of_comm k a) (product_of_comm k b)
     (product_of-at_most k a b (num_nonneg k (inverse_nonneg n scale)) h)
-
-pub whole_quotient_den : (a : Fraction) (n : ℤ) → pos 1 ≤ℤ n → 0 < a.den → 0 < (quotient_of a (whole n)).den
-whole_quotient_den a n scale ha = quotient_of_den a (whole n) ha (not_zero n scale)
 
 pub right_side_den : (P : Problem) (objective : Bool) (ws : List Weighted) → All (λ (w : Weighted). 0 < w.by.den) ws → 0 < (right_side P objective ws).den
 right_side_den P false ws h = sum_of_den (combined_right ws) zero_fraction (combined_right_den ws h) (whole_den (pos 0))

@@ -1,5 +1,5 @@
 -- A combination's value over a box is the exact one, where no operation leaves.
-use Rattle.std.proofs.Common.{◌≡◌, refl, sym, ℕ, suc, ◌<◌, List, [], ◌∷◌, All, arith, ℤ, pos, ◌≤ℤ◌, unsigned_abs, subst, Bool, true, false, Ok}
+use Rattle.std.proofs.Common.{◌≡◌, refl, sym, ℕ, suc, ◌<◌, List, [], ◌∷◌, All, arith, ℤ, pos, ◌≤ℤ◌, subst, Bool, true, false, Ok}
 use Rattle.std.specs.Prelude.{if◌then◌else◌}
 use Rattle.std.specs.Ordering.{int_eq}
 use Rattle.std.proofs.lemmas.List.Elements.{All-head, All-tail}
@@ -9,12 +9,13 @@ use Rattle.qm_math.specs.Arithmetic.{sum_of, negated, difference_of, product_of,
 use Rattle.qm_math.proofs.Polynomials.{number, ◌⊕◌, ◌⊗◌, minus}
 use Rattle.qm_math.proofs.Ring.{x0, x1, x2}
 use Rattle.qm_math.proofs.FractionRing.{num_of, den_of, same_from, same_by_ring}
-use Rattle.qm_math.proofs.FractionLaws.{same_refl, same_sym, same_trans, sum_of-same, difference_of-same, quotient_of-same, whole_den, sum_of_den, difference_of_den, product_of_den, sum_of_comm, zero-sum_of, sum_of-zero}
+use Rattle.qm_math.proofs.FractionLaws.{same_refl, same_sym, same_trans, sum_of-same, difference_of-same, quotient_of-same, whole_den, sum_of_den, difference_of_den, product_of_den, sum_of_comm, zero-sum_of, sum_of-zero, whole_quotient_den}
 use Rattle.qm_math.proofs.FractionOrder.{below_congr, at_most_congr}
 use Rattle.qm_math.proofs.Ends.{least_multiple-same}
 use Rattle.qm_math.specs.Ends.{least_multiple}
+use Rattle.qm_math.proofs.Magnitudes.{unsigned_abs-one_le}
+use Rattle.qm_math.proofs.WholeTests.{eq_of_test}
 use Rattle.qm_frac.specs.Checked.{Checked, and_then, added, subtracted, multiplied, divided}
-use Rattle.qm_frac.proofs.MultipliedOut.{inverse-inverse_of}
 use Rattle.qm_frac.proofs.CheckedLaws.{and_then-ok, added-value, subtracted-value, multiplied-value, divided-value, IsFrac-added, IsFrac-subtracted, IsFrac-multiplied, IsFrac-divided}
 use Rattle.qm_model.specs.declared.range.Range.{Range}
 use Rattle.qm_model.specs.declared.game.Problem.{Problem}
@@ -23,7 +24,8 @@ use Rattle.qm_trees.specs.declared.combination.ComboValue.{ComboValue}
 use Rattle.qm_trees.specs.declared.combination.ComboValue.TheVariants.{Nothing, Void, Bound}
 use Rattle.qm_trees.specs.Entries.{Weighted}
 use Rattle.qm_trees.specs.Evaluation.{zero, least_end_by, if_objective, right_side, combined_coefficient, least_form, least_combined, bound_of, add_right_sides, add_coefficients, less_objective, add_least, add_variables, value_of}
-use Rattle.qm_trees.proofs.CombinationSound.{combined_row_at, combined_right, combined_row_at_den, combined_right_den, if_objective_den, combined_coefficient_den, least_form_den, least_combined_den, right_side_den, whole_quotient_den, least_end_multiple}
+use Rattle.qm_trees.proofs.CombinationSound.{combined_row_at, combined_right, combined_row_at_den, combined_right_den, if_objective_den, combined_coefficient_den, least_form_den, least_combined_den, right_side_den, least_end_multiple}
+use Rattle.qm_trees.proofs.Lines.{ok_is}
 
 -- the value is the exact one, over a positive denominator
 pub record IsExact (r exact : Fraction) : Type 0 where
@@ -33,26 +35,16 @@ pub record IsExact (r exact : Fraction) : Type 0 where
 -- ---- one operation
 
 added_exact : (a b r : Fraction) → 0 < a.den → 0 < b.den → added a b ≡ Ok r → IsExact r (sum_of a b)
-unfolding sum_of
 added_exact a b r ha hb h = record { same = added-value a b r h; positive = (IsFrac-added a b r ha hb h).positive }
 
 subtracted_exact : (a b r : Fraction) → 0 < a.den → 0 < b.den → subtracted a b ≡ Ok r → IsExact r (difference_of a b)
-unfolding sum_of negated
 subtracted_exact a b r ha hb h = record { same = subtracted-value a b r h; positive = (IsFrac-subtracted a b r ha hb h).positive }
 
 multiplied_exact : (a b r : Fraction) → 0 < a.den → 0 < b.den → multiplied a b ≡ Ok r → IsExact r (product_of a b)
-unfolding product_of
 multiplied_exact a b r ha hb h = record { same = multiplied-value a b r h; positive = (IsFrac-multiplied a b r ha hb h).positive }
 
-divided_same : (a b r : Fraction) → divided a b ≡ Ok r → IsSame r (quotient_of a b)
-unfolding product_of
-divided_same a b r h = rw (← inverse-inverse_of b) (divided-value a b r h)
-
-abs_positive : (n : ℤ) → pos 1 ≤ℤ n → 0 < unsigned_abs n
-abs_positive n h = omega (arith, ints, h)
-
 divided_exact : (a : Fraction) (n : ℤ) (r : Fraction) → 0 < a.den → pos 1 ≤ℤ n → divided a (whole n) ≡ Ok r → IsExact r (quotient_of a (whole n))
-divided_exact a n r ha scale h = record { same = divided_same a (whole n) r h; positive = (IsFrac-divided a (whole n) r ha (abs_positive n scale) h).positive }
+divided_exact a n r ha scale h = record { same = divided-value a (whole n) r h; positive = (IsFrac-divided a (whole n) r ha (unsigned_abs-one_le n scale) h).positive }
 
 -- a product is added to the sum so far
 product_added : (k e s p t : Fraction) → 0 < k.den → 0 < e.den → 0 < s.den → multiplied k e ≡ Ok p → added s p ≡ Ok t → IsExact t (sum_of (product_of k e) s)
@@ -79,15 +71,6 @@ moved t q rest s s1 hq hrest hs hs1 total first = record {
 from_zero : (t : Fraction) (total : Fraction) → 0 < total.den → IsExact t (sum_of total zero) → IsSame t total
 from_zero t total h exact = same_trans t (sum_of total zero) total (sum_of_den total zero h (whole_den (pos 0))) exact.same (sum_of-zero total)
 
-is_zero : (k : ℤ) → int_eq k (pos 0) ≡ true → k ≡ pos 0
-is_zero k e = grind (arith, ints)
-
-ok_same : (s t : Fraction) → (let r : Checked Fraction = Ok s in r) ≡ Ok t → s ≡ t
-ok_same s t h = cc
-
-ok_value : (s t : ComboValue) → (let r : Checked ComboValue = Ok s in r) ≡ Ok t → s ≡ t
-ok_value s t h = cc
-
 pub below_true : (a b : Fraction) → is_below a b ≡ true → IsBelow a b
 below_true a b e = grind (arith, ints)
 
@@ -111,8 +94,8 @@ kept c t k hc e z = subst (λ (x : Fraction). IsExact x (difference_of c (whole 
 
 add_right_sides_exact : (ws : List Weighted) (s t : Fraction) → All (λ (w : Weighted). 0 < w.by.den) ws → 0 < s.den → add_right_sides ws s ≡ Ok t → IsExact t (sum_of (combined_right ws) s)
 add_right_sides_exact [] s t dens hs h = record {
-  same = subst (λ (x : Fraction). IsSame x (sum_of zero s)) (ok_same s t h) (same_sym (sum_of zero s) s (zero-sum_of s));
-  positive = subst (λ (x : Fraction). 0 < x.den) (ok_same s t h) hs;
+  same = subst (λ (x : Fraction). IsSame x (sum_of zero s)) (ok_is s t h) (same_sym (sum_of zero s) s (zero-sum_of s));
+  positive = subst (λ (x : Fraction). 0 < x.den) (ok_is s t h) hs;
 }
 add_right_sides_exact (w ∷ ws) s t dens hs h =
     let times = and_then-ok (multiplied w.by (whole w.row.right)) (λ p. and_then (added s p) (λ s1. add_right_sides ws s1)) t h in
@@ -128,8 +111,8 @@ add_right_sides_exact (w ∷ ws) s t dens hs h =
 
 add_coefficients_exact : (var : ℕ) (ws : List Weighted) (s t : Fraction) → All (λ (w : Weighted). 0 < w.by.den) ws → 0 < s.den → add_coefficients var ws s ≡ Ok t → IsExact t (sum_of (combined_row_at ws var) s)
 add_coefficients_exact var [] s t dens hs h = record {
-  same = subst (λ (x : Fraction). IsSame x (sum_of zero s)) (ok_same s t h) (same_sym (sum_of zero s) s (zero-sum_of s));
-  positive = subst (λ (x : Fraction). 0 < x.den) (ok_same s t h) hs;
+  same = subst (λ (x : Fraction). IsSame x (sum_of zero s)) (ok_is s t h) (same_sym (sum_of zero s) s (zero-sum_of s));
+  positive = subst (λ (x : Fraction). 0 < x.den) (ok_is s t h) hs;
 }
 add_coefficients_exact var (w ∷ ws) s t dens hs h =
     by_test (λ s1 hs1 h1. add_coefficients_exact var ws s1 t (All-tail (λ (w : Weighted). 0 < w.by.den) w ws dens) hs1 h1) (int_eq k (pos 0)) refl h
@@ -151,7 +134,7 @@ add_coefficients_exact var (w ∷ ws) s t dens hs h =
     by_test rest true e h =
         moved t (product_of w.by (whole k)) (combined_row_at ws var) s s
         (product_of_den w.by (whole k) by_den (whole_den k)) (combined_row_at_den ws var after) hs hs
-        (rest s hs h) (nothing_added w.by s k (is_zero k e))
+        (rest s hs h) (nothing_added w.by s k (eq_of_test k (pos 0) e))
     by_test rest false e h =
         let times = and_then-ok (multiplied w.by (whole k)) next t h in
         let plus = and_then-ok (added s times.0) (λ d. add_coefficients var ws d) t times.2 in
@@ -161,14 +144,14 @@ add_coefficients_exact var (w ∷ ws) s t dens hs h =
         (rest plus.0 step.positive plus.2) step.same
 
 less_objective_exact : (P : Problem) (objective : Bool) (var : ℕ) (c t : Fraction) → 0 < c.den → less_objective P objective var c ≡ Ok t → IsExact t (difference_of c (if_objective objective (coefficient P.terms var)))
-less_objective_exact P false var c t hc h = kept c t (pos 0) hc (ok_same c t h) refl
+less_objective_exact P false var c t hc h = kept c t (pos 0) hc (ok_is c t h) refl
 less_objective_exact P true var c t hc h = by_test (int_eq k (pos 0)) refl h
   where
     k : ℤ
     k = coefficient P.terms var
 
     by_test : (b : Bool) → int_eq k (pos 0) ≡ b → (if b then Ok c else subtracted c (whole k)) ≡ Ok t → IsExact t (difference_of c (whole k))
-    by_test true e h = kept c t k hc (ok_same c t h) (is_zero k e)
+    by_test true e h = kept c t k hc (ok_is c t h) (eq_of_test k (pos 0) e)
     by_test false e h = subtracted_exact c (whole k) t hc (whole_den k) h
 
 -- ---- the least value of the form
@@ -186,7 +169,7 @@ least_product_same c k r hc hk e =
 
 is_zero_num : (c : Fraction) → int_eq c.num (pos 0) ≡ true → IsSame (whole (pos 0)) c
 is_zero_num c e =
-    let z : c.num ≡ pos 0 = is_zero c.num e in
+    let z : c.num ≡ pos 0 = eq_of_test c.num (pos 0) e in
     omega (arith, ints, z)
 
 -- an exact sum with a term the same as the exact one
@@ -207,7 +190,7 @@ add_least_exact c k r s t hc hk hs e h =
 
     by_test : (b : Bool) → int_eq c.num (pos 0) ≡ b → (if b then Ok s else and_then (multiplied c end) (λ p. added s p)) ≡ Ok t → IsExact t (sum_of (product_of c end) s)
     by_test true z h =
-        subst (λ (x : Fraction). IsExact x (sum_of (product_of c end) s)) (ok_same s t h)
+        subst (λ (x : Fraction). IsExact x (sum_of (product_of c end) s)) (ok_is s t h)
         (record { same = zero_numerator c end s (is_zero_num c z); positive = hs })
     by_test false z h =
         let times = and_then-ok (multiplied c end) (λ p. added s p) t h in
@@ -216,8 +199,8 @@ add_least_exact c k r s t hc hk hs e h =
 add_variables_exact : (P : Problem) (objective : Bool) (ws : List Weighted) → All (λ (w : Weighted). 0 < w.by.den) ws → (var : ℕ) (bx : List Range) (s t : Fraction) → 0 < s.den
     → add_variables P objective ws var bx s ≡ Ok t → IsExact t (sum_of (least_form (combined_coefficient P objective ws) var bx) s)
 add_variables_exact P objective ws dens var [] s t hs h = record {
-  same = subst (λ (x : Fraction). IsSame x (sum_of zero s)) (ok_same s t h) (same_sym (sum_of zero s) s (zero-sum_of s));
-  positive = subst (λ (x : Fraction). 0 < x.den) (ok_same s t h) hs;
+  same = subst (λ (x : Fraction). IsSame x (sum_of zero s)) (ok_is s t h) (same_sym (sum_of zero s) s (zero-sum_of s));
+  positive = subst (λ (x : Fraction). 0 < x.den) (ok_is s t h) hs;
 }
 add_variables_exact P objective ws dens var (r ∷ bx) s t hs h =
     let k = combined_coefficient P objective ws var in
@@ -266,7 +249,7 @@ says P ws bx v dens h =
     let q = and_then-ok (add_variables P false ws 0 bx zero) (λ s. let z : Checked ComboValue = Ok (if is_below p.0 s then Void else Nothing) in z) v p.2 in
     let right = add_right_sides_exact ws zero p.0 dens (whole_den (pos 0)) p.1 in
     let least = least_same P false ws dens bx q.0 q.1 in
-    subst (Says P ws bx) (ok_value (if is_below p.0 q.0 then Void else Nothing) v q.2)
+    subst (Says P ws bx) (ok_is (if is_below p.0 q.0 then Void else Nothing) v q.2)
     (by_test (is_below p.0 q.0) p.0 q.0 refl right least)
   where
     by_test : (b : Bool) (r s : Fraction) → is_below r s ≡ b → IsExact r (right_side P false ws) → IsExact s (least_combined P false ws bx) → Says P ws bx (if b then Void else Nothing)
@@ -299,7 +282,7 @@ bounds P ws bx v dens scale h =
     let gap_same : IsSame d.0 gap = same_trans d.0 (difference_of b.0 c.0) gap (difference_of_den b.0 c.0 with_constant.positive least.positive) minus_least.same
     (difference_of-same b.0 c.0 (right_side P true ws) (least_combined P true ws bx) right least.same) in
     let quotient = divided_exact d.0 P.scale f.0 minus_least.positive scale f.1 in
-    subst (Bounds P ws bx) (ok_value (Bound f.0) v f.2)
+    subst (Bounds P ws bx) (ok_is (Bound f.0) v f.2)
     (record {
       same = same_trans f.0 (quotient_of d.0 (whole P.scale)) (bound_of P ws bx) (whole_quotient_den d.0 P.scale scale minus_least.positive) quotient.same
           (quotient_of-same d.0 (whole P.scale) gap (whole P.scale) gap_same (same_refl (whole P.scale)));

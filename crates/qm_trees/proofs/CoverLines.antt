@@ -6,13 +6,14 @@ use Rattle.std.proofs.lemmas.Int.{ints}
 use Rattle.std.proofs.lemmas.Bool.{and_from, and_parts}
 use Rattle.std.proofs.lemmas.Bool.Decides.{Decides-int_eq, nat_tests}
 use Rattle.std.proofs.lemmas.List.Elements.{All-cons, All-nil, All-head, All-tail}
+use Rattle.qm_math.proofs.WholeTests.{lt_of_test, test_of_lt, le_of_test, test_of_le, false_of_le}
 use Rattle.qm_model.specs.declared.range.Range.{Range}
 use Rattle.qm_model.specs.Boxes.{Cover, FollowOn}
 use Rattle.qm_trees.specs.declared.rule.Rule.TheVariants as rule
 use Rattle.qm_trees.specs.Verdicts.{Verdict, Fine, line, ◌then◌}
 use Rattle.qm_trees.specs.Ranges.{same, counts_right, follows_on, judge_each, judge_parts}
 use Rattle.qm_trees.specs.Passing.{IsFine}
-use Rattle.qm_trees.proofs.Lines.{le_of_test, test_of_le, lt_of_test, test_of_lt, false_of_le, fine_parts, fine_both, fine_line, line_fine, ok_is}
+use Rattle.qm_trees.proofs.Lines.{fine_parts, fine_both, fine_line, line_fine, ok_is}
 
 -- a range that begins at `next` and has a value
 pub record Begins (next : ℤ) (r : Range) : Type 0 where

@@ -2,10 +2,11 @@
 use Rattle.std.proofs.Common.{◌≡◌, ℕ, ◌+◌, ◌<◌, Bool, true, false, List, [], ◌∷◌, get_or, All, refl, sym, ◌∙◌, subst, true≢false, Ok, inl, inr, ◌⊎◌}
 use Rattle.std.specs.Prelude.{◌↔◌, ◌&&◌, ◌==◌, IsOk, slice_set, if◌then◌else◌}
 use Rattle.std.specs.Bool.{Decides}
-use Rattle.std.proofs.lemmas.Bool.{and_from, and_parts}
+use Rattle.std.proofs.lemmas.Bool.{and_from, and_parts, both_ways}
 use Rattle.std.proofs.lemmas.Bool.Decides.{Decides-and, Decides-or, Decides-eqb}
 use Rattle.qm_math.specs.Fraction.{IsBelow}
 use Rattle.qm_math.proofs.FractionOrder.{not_at_most_below}
+use Rattle.qm_math.proofs.WholeTests.{lt_of_test, test_of_lt}
 use Rattle.qm_frac.specs.Checked.{Checked, and_then}
 use Rattle.qm_frac.proofs.CheckedLaws.{and_then-ok}
 use Rattle.qm_model.specs.declared.range.Range.{Range}
@@ -24,15 +25,16 @@ use Rattle.qm_trees.specs.Entries.{Combination, IsPositive, all_positive, Weight
 use Rattle.qm_trees.specs.Evaluation.{right_side, least_combined, value_of}
 use Rattle.qm_trees.specs.Closing.{is_empty_range}
 use Rattle.qm_trees.specs.Verdicts.{Verdict, Broken, line}
-use Rattle.qm_trees.specs.Ranges.{range_at, judge_parts}
+use Rattle.qm_model.specs.Ranges.{range_at}
+use Rattle.qm_trees.specs.Ranges.{judge_parts}
 use Rattle.qm_trees.specs.Passing.{IsFine}
 use Rattle.qm_trees.specs.EmptyJudgement.{Layer, range_of, below_of, all_uncertain, some_universal_empty, is_void, contradicts, closes_empty, judge_close, judge_end, judge_split, judge_empty}
 use Rattle.qm_trees.specs.EmptyRight.{HasEmptyUniversal, IsRightClose, IsRightEnd, IsRightSplit, IsRightEmpty, IsCloseInRange, IsEndInRange, IsSplitInRange, IsEmptyInRange}
-use Rattle.qm_trees.proofs.Lines.{lt_of_test, test_of_lt, never, fine_line, line_fine, tested_parts, tested_from}
+use Rattle.qm_trees.proofs.Lines.{never, fine_line, line_fine, tested_parts, tested_from}
 use Rattle.qm_trees.proofs.Moves.{fine_else, fine_then, else_fine, then_fine}
 use Rattle.qm_trees.proofs.CoverLines.{fine_cover, cover_fine}
 use Rattle.qm_trees.proofs.CombinationValues.{Says, says}
-use Rattle.qm_trees.proofs.CombinationCloses.{IsAnswer, ok_bool, not_both, answer_exact}
+use Rattle.qm_trees.proofs.CombinationCloses.{IsAnswer, ok_bool, answer_exact}
 use Rattle.qm_trees.proofs.Multipliers.{weighted_dens, all_positive-says}
 
 -- ---- empty ranges
@@ -70,7 +72,7 @@ module _ (P : Problem) (bx : List Range) (ws : List Weighted) (dens : All (λ (w
       either false h = neither h
         where
           neither : (IsBelow (right_side P false ws) (least_combined P false ws bx) → ⊥) → Contradict P bx ws → ⊥
-          neither h (inl empty) = not_both ⊥ (some_universal_empty (whole_vars P) bx) ((universal_says (whole_vars P) bx).1 empty) e
+          neither h (inl empty) = both_ways (some_universal_empty (whole_vars P) bx) e ((universal_says (whole_vars P) bx).1 empty)
           neither h (inr below) = h below
 
 -- ---- closing

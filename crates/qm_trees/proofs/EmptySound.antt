@@ -42,7 +42,7 @@ use Rattle.qm_trees.specs.Entries.{Combination, Weighted, row_named, weighted_ro
 use Rattle.qm_trees.specs.Evaluation.{right_side, combined_coefficient, least_form, least_combined, least_end_by}
 use Rattle.qm_trees.specs.BoxPoints.{IsInBox, HoldsAt, form_of}
 use Rattle.qm_trees.specs.Picks.{Fit}
-use Rattle.qm_trees.specs.Ranges.{range_at, single}
+use Rattle.qm_model.specs.Ranges.{range_at, single}
 use Rattle.qm_trees.specs.Reaching.{HasValue}
 use Rattle.qm_trees.specs.EmptyJudgement.{Layer, range_of, below_of, all_uncertain, is_uncertain}
 use Rattle.qm_trees.specs.EmptyRight.{HasEmptyUniversal, IsRightClose, IsRightEnd, IsRightSplit, IsRightEmpty}

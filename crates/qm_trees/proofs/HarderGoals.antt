@@ -14,7 +14,7 @@ use Rattle.qm_trees.specs.declared.refutation.Refute.TheOpen as node
 use Rattle.qm_trees.specs.Entries.{Combination, Weighted, weighted_rows}
 use Rattle.qm_trees.specs.Evaluation.{value_of}
 use Rattle.qm_trees.specs.Closing.{closes_goal, is_empty_range, closing}
-use Rattle.qm_trees.specs.Ranges.{single}
+use Rattle.qm_model.specs.Ranges.{single}
 use Rattle.qm_trees.specs.RefuteJudgement.{Head, Layer, range_of, below_of}
 use Rattle.qm_trees.specs.RefuteRight.{IsRightClose, IsRightEnd, IsRightMove, IsRightRefutation, IsCloseInRange, IsEndInRange, IsMoveInRange, IsRefutationInRange}
 use Rattle.qm_trees.proofs.CombinationCloses.{closes_harder}

@@ -1,5 +1,5 @@
 -- A leaf passes exactly where it is right and no operation leaves: the operations have the exact values.
-use Rattle.std.proofs.Common.{◌≡◌, ℕ, zero, suc, ◌-◌, ◌<◌, Bool, true, false, List, [], ◌∷◌, length, get_or, All, refl, sym, ap, subst, ◌∙◌, ℤ, pos, negsuc, ◌*ℤ◌, ◌≤ℤ◌, arith, Ok}
+use Rattle.std.proofs.Common.{◌≡◌, ℕ, zero, suc, ◌-◌, ◌<◌, Bool, true, false, List, [], ◌∷◌, length, get_or, All, refl, sym, ap, subst, ◌∙◌, ℤ, pos, ◌*ℤ◌, ◌≤ℤ◌, arith, Ok}
 use Rattle.std.specs.Prelude.{◌&&◌, ◌↔◌, if◌then◌else◌, IsOk, slice_index_or, nat_lt}
 use Rattle.std.proofs.lemmas.Int.{ints}
 use Rattle.std.proofs.lemmas.Bool.{and_from, and_parts}
@@ -7,9 +7,10 @@ use Rattle.std.proofs.lemmas.Bool.Decides.{Decides-ltb}
 use Rattle.std.proofs.lemmas.List.Elements.{All-cons, All-nil, All-head, All-tail}
 use Rattle.qm_math.specs.Fraction.{Fraction, HasPositiveDen, whole, IsAtMost, IsSame, is_at_most}
 use Rattle.qm_math.specs.Arithmetic.{sum_of, product_of, quotient_of, inverse_of}
-use Rattle.qm_math.proofs.FractionLaws.{same_refl, same_sym, same_trans, sum_of-same, sum_of_assoc, sum_of-zero, zero-sum_of, sum_of_den, product_of_den, product_of-same, inverse_of_den}
+use Rattle.qm_math.proofs.FractionLaws.{same_refl, same_sym, same_trans, sum_of-same, sum_of_assoc, sum_of-zero, zero-sum_of, sum_of_den, product_of_den, product_of-same, whole_quotient_den}
 use Rattle.qm_math.proofs.FractionOrder.{at_most_congr}
 use Rattle.qm_math.proofs.Totals.{total_of_den}
+use Rattle.qm_math.proofs.WholeTests.{le_of_test, test_of_le}
 use Rattle.qm_frac.specs.Checked.{Checked, and_then, added, multiplied, divided}
 use Rattle.qm_frac.proofs.CheckedLaws.{added-value, multiplied-value, divided-value, IsFrac-added, IsFrac-multiplied, IsFrac-divided}
 use Rattle.qm_model.specs.declared.row.Row.{Row}
@@ -21,26 +22,9 @@ use Rattle.qm_model.specs.Points.{continuous_vars}
 use Rattle.qm_trees.specs.Evaluation.{zero as zero_fraction, least_end_by, greatest_end_by}
 use Rattle.qm_trees.specs.Leaves.{value_at, AreInBounds, sum_at, HoldsAtWorst, least_objective, IsRightLeaf, add_terms, row_holds, rows_hold, objective_reaches, are_in_bounds, leaf_passes}
 use Rattle.qm_trees.specs.PolicyRight.{IsLeafInRange}
-use Rattle.qm_trees.proofs.Lines.{le_of_test, test_of_le, ok_is, bind_parts, bind_ok}
+use Rattle.qm_trees.proofs.Lines.{ok_is, bind_parts, bind_ok}
 
 -- ---- the operations
-
-pub added_same : (a b r : Fraction) → added a b ≡ Ok r → IsSame r (sum_of a b)
-unfolding sum_of
-added_same a b r e = added-value a b r e
-
-pub multiplied_same : (a b r : Fraction) → multiplied a b ≡ Ok r → IsSame r (product_of a b)
-unfolding product_of
-multiplied_same a b r e = multiplied-value a b r e
-
-pub divided_same : (a r : Fraction) (k : ℤ) → pos 1 ≤ℤ k → divided a (whole k) ≡ Ok r → IsSame r (quotient_of a (whole k))
-unfolding product_of inverse_of
-divided_same a r (pos zero) h e = absurd (omega (arith, ints))
-divided_same a r (pos (suc n)) h e = divided-value a (whole (pos (suc n))) r e
-divided_same a r (negsuc n) h e = absurd (omega (arith, ints))
-
-pub quotient_den : (a : Fraction) (k : ℤ) → pos 1 ≤ℤ k → 0 < a.den → 0 < (quotient_of a (whole k)).den
-quotient_den a k h some = product_of_den a (inverse_of (whole k)) some (inverse_of_den (whole k) (λ e. omega (arith, ints)))
 
 divided_den : (a r : Fraction) (k : ℤ) → pos 1 ≤ℤ k → 0 < a.den → divided a (whole k) ≡ Ok r → 0 < r.den
 divided_den a r k h some e = (IsFrac-divided a (whole k) r some (omega (arith, ints)) e).positive
@@ -87,7 +71,7 @@ sum_exact value (t ∷ ts) s r dens some e =
     let rest = sum_exact value ts q r dens q_den addition.2 in
     record {
       same = sum_step (whole t.coef) (value t) s p q (sum_at value ts) r one (dens t) some p_den q_den (sum_at_den value ts dens)
-          (multiplied_same (whole t.coef) (value t) p product.1) (added_same s p q addition.1) rest.same;
+          (multiplied-value (whole t.coef) (value t) p product.1) (added-value s p q addition.1) rest.same;
       positive = rest.positive;
     }
 
@@ -187,16 +171,16 @@ module _ (P : Problem) (bx : List Range) (point : List Fraction) where
       let total = sum_of t (whole P.constant) in
       let total_den = sum_of_den t (whole P.constant) t_den one in
       let k_den = (IsFrac-added s (whole P.constant) k sum.1 one second.1).positive in
-      let k_is : IsSame k total = same_trans k (sum_of s (whole P.constant)) total (sum_of_den s (whole P.constant) sum.1 one) (added_same s (whole P.constant) k second.1)
+      let k_is : IsSame k total = same_trans k (sum_of s (whole P.constant)) total (sum_of_den s (whole P.constant) sum.1 one) (added-value s (whole P.constant) k second.1)
       (sum_of-same s (whole P.constant) t (whole P.constant) sum.0 (same_refl (whole P.constant))) in
       let by_scale = inverse_of (whole P.scale) in
       let w_den = divided_den k w P.scale scale k_den third.1 in
-      let w_is : IsSame w (quotient_of total (whole P.scale)) = same_trans w (quotient_of k (whole P.scale)) (quotient_of total (whole P.scale)) (quotient_den k P.scale scale k_den)
-      (divided_same k w P.scale scale third.1) (product_of-same k by_scale total by_scale k_is (same_refl by_scale)) in
+      let w_is : IsSame w (quotient_of total (whole P.scale)) = same_trans w (quotient_of k (whole P.scale)) (quotient_of total (whole P.scale)) (whole_quotient_den k P.scale scale k_den)
+      (divided-value k (whole P.scale) w third.1) (product_of-same k by_scale total by_scale k_is (same_refl by_scale)) in
       let test = ok_is (is_at_most v w) b third.2 in (
         (λ yes. at_most_congr v w v (quotient_of total (whole P.scale)) v_den w_den (same_refl v) w_is (le_of_test (v.num *ℤ pos w.den) (w.num *ℤ pos v.den) (test ∙ yes))),
         λ reaches. sym test ∙ test_of_le (v.num *ℤ pos w.den) (w.num *ℤ pos v.den)
-            (at_most_congr v (quotient_of total (whole P.scale)) v w v_den (quotient_den total P.scale scale total_den) (same_refl v) (same_sym w (quotient_of total (whole P.scale)) w_is) reaches),
+            (at_most_congr v (quotient_of total (whole P.scale)) v w v_den (whole_quotient_den total P.scale scale total_den) (same_refl v) (same_sym w (quotient_of total (whole P.scale)) w_is) reaches),
       )
 
 -- ---- bounds

@@ -18,7 +18,7 @@ use Rattle.qm_math.proofs.Polynomials.{number, ◌⊗◌}
 use Rattle.qm_math.proofs.Ring.{x0, x1, x2, ring}
 use Rattle.qm_math.proofs.Between.{least_product_le, le_greatest_product}
 use Rattle.qm_math.proofs.Compare.{at_most_trans}
-use Rattle.qm_math.proofs.FractionLaws.{same_refl, same_sym, same_trans, sum_of_den, product_of_den, product_of-same, product_of-whole}
+use Rattle.qm_math.proofs.FractionLaws.{same_refl, same_sym, same_trans, sum_of_den, product_of_den, product_of-same, product_of-whole, whole_quotient_den}
 use Rattle.qm_math.proofs.FractionOrder.{at_most_congr, at_most-same, sum_of-at_most}
 use Rattle.qm_math.proofs.Over.{sum_of-over, product_of-whole-over, over-at_most-whole, whole-at_most-over, whole-over, total_of-over, common_den_pos, common_nums-same, quotient_of-over}
 use Rattle.qm_math.proofs.Totals.{total_of_den, total_of-at_most}
@@ -32,11 +32,11 @@ use Rattle.qm_model.specs.Points.{Meets, AreWithinOver, HoldsOver, continuous_va
 use Rattle.qm_model.specs.Sound.{IsSound, IsRowOver}
 use Rattle.qm_model.proofs.Forms.{sum_over-each}
 use Rattle.qm_trees.specs.Evaluation.{zero as zero_fraction, least_end_by, greatest_end_by}
-use Rattle.qm_trees.specs.Ranges.{range_at}
+use Rattle.qm_model.specs.Ranges.{range_at}
 use Rattle.qm_trees.specs.Leaves.{value_at, AreInBounds, sum_at, HoldsAtWorst, least_objective, IsRightLeaf}
 use Rattle.qm_trees.specs.Reaching.{HasValue, point_of}
 use Rattle.qm_trees.proofs.CombinationSound.{quotient_of-at_most}
-use Rattle.qm_trees.proofs.LeafLines.{value_den, sum_at_den, quotient_den}
+use Rattle.qm_trees.proofs.LeafLines.{value_den, sum_at_den}
 
 -- ---- a form as a sum over its terms
 
@@ -236,7 +236,7 @@ module _ (P : Problem) (sound : IsSound P) (prefix : List ℤ) (bx : List Range)
       (same_refl (sum_of least c)) (sum_of-over d (form ts values) (P.constant *ℤ pos d)) total_above in
       let quotient = quotient_of-at_most (sum_of least c) (over d n) P.scale sound.scale_positive (sum_of_den least c dens one) d_pos n_above in
       at_most_congr (quotient_of (sum_of least c) (whole P.scale)) (quotient_of (over d n) (whole P.scale)) (quotient_of (sum_of least c) (whole P.scale)) (objective_at P prefix (point_of point))
-      (quotient_den (sum_of least c) P.scale sound.scale_positive (sum_of_den least c dens one)) (quotient_den (over d n) P.scale sound.scale_positive d_pos)
+      (whole_quotient_den (sum_of least c) P.scale sound.scale_positive (sum_of_den least c dens one)) (whole_quotient_den (over d n) P.scale sound.scale_positive d_pos)
       (same_refl (quotient_of (sum_of least c) (whole P.scale))) (quotient_of-over d n P.scale sound.scale_positive) quotient
 
   pub leaf_meets : (v : Fraction) → IsRightLeaf P v bx point → Meets P prefix (point_of point)
@@ -252,4 +252,4 @@ module _ (P : Problem) (sound : IsSound P) (prefix : List ℤ) (bx : List Range)
       let least = sum_at (value_at least_end_by P bx point) ts in
       let dens : 0 < least.den = sum_at_den (value_at least_end_by P bx point) ts (value_den least_end_by P bx point proper) in
       at_most_trans v (least_objective P bx point) (objective_at P prefix (point_of point))
-      (quotient_den (sum_of least (whole P.constant)) P.scale sound.scale_positive (sum_of_den least (whole P.constant) dens (omega arith))) leaf.reaches least_at_most
+      (whole_quotient_den (sum_of least (whole P.constant)) P.scale sound.scale_positive (sum_of_den least (whole P.constant) dens (omega arith))) leaf.reaches least_at_most

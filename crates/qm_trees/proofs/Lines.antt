@@ -1,31 +1,11 @@
 -- Which verdicts are fine, and the tests of lines as facts.
-use Rattle.std.proofs.Common.{◌≡◌, Bool, true, false, not, refl, sym, subst, true≢false, ℤ, ◌≤ℤ◌, ◌<ℤ◌, arith, Ok, Err}
-use Rattle.std.specs.Prelude.{int_le, int_lt, IsOk, if◌then◌else◌}
+use Rattle.std.proofs.Common.{◌≡◌, Bool, true, false, refl, sym, subst, true≢false, Ok, Err}
+use Rattle.std.specs.Prelude.{IsOk, if◌then◌else◌}
 use Rattle.std.specs.Bool.{Decides}
-use Rattle.std.proofs.lemmas.Int.{ints}
 use Rattle.qm_frac.specs.Checked.{Checked, and_then}
 use Rattle.qm_trees.specs.declared.rule.Rule.{Rule}
 use Rattle.qm_trees.specs.Verdicts.{Verdict, Fine, Broken, Left, line, ◌then◌, answer_of}
 use Rattle.qm_trees.specs.Passing.{IsFine}
-
-pub le_of_test : (a b : ℤ) → int_le a b ≡ true → a ≤ℤ b
-le_of_test a b e = grind (arith, ints)
-
-pub test_of_le : (a b : ℤ) → a ≤ℤ b → int_le a b ≡ true
-test_of_le a b h = grind (arith, ints)
-
-pub lt_of_test : (a b : ℤ) → int_lt a b ≡ true → a <ℤ b
-lt_of_test a b e = grind (arith, ints)
-
-pub test_of_lt : (a b : ℤ) → a <ℤ b → int_lt a b ≡ true
-test_of_lt a b h = grind (arith, ints)
-
-pub false_of_le : (a b : ℤ) → a ≤ℤ b → int_lt b a ≡ false
-false_of_le a b h = grind (arith, ints)
-
-pub true_of_not : (b : Bool) → not b ≡ true → b ≡ false
-true_of_not true e = sym e
-true_of_not false e = refl
 
 -- the test that is false of what never holds
 pub never : Decides false ⊥

@@ -4,12 +4,12 @@ use Rattle.std.specs.Prelude.{◌==◌, int_le, if◌then◌else◌}
 use Rattle.std.proofs.lemmas.Bool.{and_from, and_parts}
 use Rattle.std.proofs.lemmas.Bool.Decides.{nat_tests}
 use Rattle.qm_math.specs.Ranges.{IsBetween}
+use Rattle.qm_math.proofs.WholeTests.{le_of_test, test_of_le}
 use Rattle.qm_model.specs.declared.range.Range.{Range}
 use Rattle.qm_trees.specs.declared.rule.Rule.{Rule}
 use Rattle.qm_trees.specs.Verdicts.{Verdict, Broken}
-use Rattle.qm_trees.specs.Ranges.{is_in}
+use Rattle.qm_model.specs.Ranges.{is_in}
 use Rattle.qm_trees.specs.Passing.{IsFine}
-use Rattle.qm_trees.proofs.Lines.{le_of_test, test_of_le}
 
 -- ---- choices of a line
 

@@ -8,13 +8,13 @@ use Rattle.std.proofs.lemmas.Bool.Decides.{Decides-and, Decides-ltb, Decides-by_
 use Rattle.std.proofs.lemmas.List.Elements.{All-cons, All-nil, All-head, All-tail}
 use Rattle.qm_math.specs.Fraction.{Fraction, HasPositiveDen, whole, IsAtMost, IsBelow, is_below}
 use Rattle.qm_math.proofs.Compare.{below_at_most_weak}
+use Rattle.qm_math.proofs.WholeTests.{lt_of_test, test_of_lt}
 use Rattle.qm_model.specs.declared.row.Row.{Row}
 use Rattle.qm_model.specs.declared.game.Problem.{Problem}
 use Rattle.qm_trees.specs.declared.combination.Entry.{Entry}
 use Rattle.qm_trees.specs.Entries.{AreEntries, IsPositive, is_positive, all_positive, row_named, Weighted, with_row, weighted_rows}
 use Rattle.qm_trees.specs.RefuteJudgement.{all_named}
 use Rattle.qm_trees.specs.RefuteRight.{AreNamed}
-use Rattle.qm_trees.proofs.Lines.{lt_of_test, test_of_lt}
 
 -- ---- what holds of each multiplier holds of those of the weighted rows
 

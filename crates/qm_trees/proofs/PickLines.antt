@@ -6,6 +6,7 @@ use Rattle.std.specs.List.{list_all}
 use Rattle.std.proofs.lemmas.Bool.Decides.{Decides-and, Decides-like, Decides-by_and}
 use Rattle.std.proofs.lemmas.List.Sums.{sum_by-cons}
 use Rattle.qm_math.specs.Ranges.{IsBetween}
+use Rattle.qm_math.proofs.WholeTests.{le_of_test, test_of_le}
 use Rattle.qm_model.specs.declared.row.Row.{Row}
 use Rattle.qm_model.specs.declared.range.Range.{Range}
 use Rattle.qm_model.specs.declared.variable.Player.{Player}
@@ -15,10 +16,10 @@ use Rattle.qm_model.specs.declared.game.Problem.{Problem}
 use Rattle.qm_model.specs.Boxes.{greatest_value}
 use Rattle.qm_model.specs.Plays.{is_universal}
 use Rattle.qm_model.specs.Wins.{MatchPlayer}
-use Rattle.qm_trees.specs.Ranges.{range_at, is_in}
+use Rattle.qm_model.specs.Ranges.{range_at, is_in}
 use Rattle.qm_trees.specs.Picks.{universal_count, FitNext, Fit, HoldsOnBox, holds_on_box, picked, fit, meet_on_box}
 use Rattle.qm_trees.specs.RefuteRight.{IsRightPick}
-use Rattle.qm_trees.proofs.Lines.{le_of_test, test_of_le, never}
+use Rattle.qm_trees.proofs.Lines.{never}
 use Rattle.qm_trees.proofs.Moves.{between_of, in_of_between}
 
 -- ---- completions that fit

@@ -19,7 +19,7 @@ use Rattle.qm_model.proofs.Players.{by_player, is_for_all, not_universal}
 use Rattle.qm_model.proofs.UncertaintyRows.{IsUniversalAt, length-spread, spread-here, spread-other, universal_at_take, universal_is_whole}
 use Rattle.qm_trees.specs.BoxPoints.{BeginIn}
 use Rattle.qm_trees.specs.Picks.{Fit, FitNext, HoldsOnBox, fixed}
-use Rattle.qm_trees.specs.Ranges.{single}
+use Rattle.qm_model.specs.Ranges.{single}
 
 -- ---- values that fit
 

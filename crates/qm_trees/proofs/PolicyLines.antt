@@ -13,7 +13,8 @@ use Rattle.qm_trees.specs.declared.policy.Policy.{Policy, out-Policy}
 use Rattle.qm_trees.specs.declared.policy.Below.TheOpen as node
 use Rattle.qm_trees.specs.declared.policy.PolicyPart.{PolicyPart}
 use Rattle.qm_trees.specs.Verdicts.{Verdict, Fine, line, ◌then◌}
-use Rattle.qm_trees.specs.Ranges.{range_at, single, is_in, judge_parts}
+use Rattle.qm_model.specs.Ranges.{range_at, single, is_in}
+use Rattle.qm_trees.specs.Ranges.{judge_parts}
 use Rattle.qm_trees.specs.Leaves.{leaf_passes}
 use Rattle.qm_trees.specs.EmptyJudgement.{judge_empty}
 use Rattle.qm_trees.specs.PolicyJudgement.{Layer, BelowLayer, range_of, below_of, judge_below, judge_end, judge_move, judge_policy}

@@ -23,7 +23,7 @@ use Rattle.qm_model.proofs.LegalMoves.{rest-universal, universal_part-existentia
 use Rattle.qm_model.proofs.Players.{is_for_all, not_universal}
 use Rattle.qm_trees.specs.declared.policy.Policy.{Policy, out-Policy}
 use Rattle.qm_trees.specs.declared.policy.Below.TheOpen as node
-use Rattle.qm_trees.specs.Ranges.{range_at, single}
+use Rattle.qm_model.specs.Ranges.{range_at, single}
 use Rattle.qm_trees.specs.BoxPoints.{BeginIn}
 use Rattle.qm_trees.specs.Picks.{Fit}
 use Rattle.qm_trees.specs.PolicyJudgement.{Layer, BelowLayer, range_of, below_of}
@@ -143,14 +143,14 @@ module _ (P : Problem) (sound : IsSound P) (x : Var) (xs : List Var) (depth : �
       absurd (no_play P bx tree (universal_part (whole_vars P) prefix ++ rest) sound play (place_fits P sound xs (depth + 1) prefix bx rest place within) right)
 
   -- the variables behind the prefix
-  behind : (prefix : List ℤ) (bx : List Range) → Place P (x ∷ xs) depth prefix bx → drop (length prefix) (whole_vars P) ≡ x ∷ xs
-  behind prefix bx place = ap (λ n. drop n (whole_vars P)) (length_at P (x ∷ xs) depth prefix bx place) ∙ place.next
+  variables_left : (prefix : List ℤ) (bx : List Range) → Place P (x ∷ xs) depth prefix bx → drop (length prefix) (whole_vars P) ≡ x ∷ xs
+  variables_left prefix bx place = ap (λ n. drop n (whole_vars P)) (length_at P (x ∷ xs) depth prefix bx place) ∙ place.next
 
   -- the universal values that follow a legal one
   rest_within : (prefix rest : List ℤ) (bx : List Range) (u : ℤ) → x.player ≡ Universal → Place P (x ∷ xs) depth prefix bx → IsPlay P (universal_part (whole_vars P) (prefix ++ u ∷ []) ++ rest)
       → AreWithin (filter is_universal xs) rest
   rest_within prefix rest bx u universal place play =
-      let next = behind prefix bx place in
+      let next = variables_left prefix bx place in
       let us = universal_part (whole_vars P) prefix in
       let same : universal_part (whole_vars P) (prefix ++ u ∷ []) ++ rest ≡ us ++ u ∷ rest =
       ap (λ ws. ws ++ rest) (universal_part-universal P prefix x xs next u universal) ∙ append_assoc us (u ∷ []) rest in
@@ -200,7 +200,7 @@ module _ (P : Problem) (sound : IsSound P) (x : Var) (xs : List Var) (depth : �
       let here = next_range P x xs depth prefix bx place in
       let chosen : IsWithin x value = subst (λ (r : Range). HasValue r value) here right.1 in
       let has : HasValue (single value) value = (omega (arith, ints), omega (arith, ints)) in
-      let same = sym (universal_part-existential P prefix x xs (behind prefix bx place) value right.0) in
+      let same = sym (universal_part-existential P prefix x xs (variables_left prefix bx place) value right.0) in
       let later : AreWithin (filter is_universal xs) us = subst (λ (b : Bool). AreWithin (if b then x ∷ filter is_universal xs else filter is_universal xs) us) (not_universal x right.0) within in (
         right.0,
         chosen,
@@ -215,7 +215,7 @@ module _ (P : Problem) (sound : IsSound P) (x : Var) (xs : List Var) (depth : �
       let values = universal_part (whole_vars P) prefix in
       let same : values ++ us ≡ universal_part (whole_vars P) (prefix ++ u ∷ []) ++ first.1 =
       ap (λ vs. values ++ vs) first.2 ∙ sym (append_assoc values (u ∷ []) first.1)
-      ∙ ap (λ vs. vs ++ first.1) (sym (universal_part-universal P prefix x xs (behind prefix bx place) u right.0)) in
+      ∙ ap (λ vs. vs ++ first.1) (sym (universal_part-universal P prefix x xs (variables_left prefix bx place) u right.0)) in
       let goes_on : IsPlay P (universal_part (whole_vars P) (prefix ++ u ∷ []) ++ first.1) = subst (IsPlay P) same play in
       subst (λ vs. ReachesByMove x Reaches prefix vs (node.Answer parts)) (sym first.2) (
         right.0,

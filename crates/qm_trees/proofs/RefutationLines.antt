@@ -18,7 +18,8 @@ use Rattle.qm_trees.specs.declared.refutation.RefutePart.{RefutePart}
 use Rattle.qm_trees.specs.Entries.{Combination, all_positive, weighted_rows}
 use Rattle.qm_trees.specs.Closing.{closing}
 use Rattle.qm_trees.specs.Verdicts.{Verdict, line, ◌then◌}
-use Rattle.qm_trees.specs.Ranges.{range_at, single, is_in, counts_right, judge_each}
+use Rattle.qm_model.specs.Ranges.{range_at, single, is_in}
+use Rattle.qm_trees.specs.Ranges.{counts_right, judge_each}
 use Rattle.qm_trees.specs.Picks.{universal_count, fit, picked, meet_on_box}
 use Rattle.qm_trees.specs.Passing.{IsFine}
 use Rattle.qm_trees.specs.RefuteJudgement.{Head, Layer, range_of, below_of, all_named, closes_here, judge_end, counts_over, judge_move, judge_refute}

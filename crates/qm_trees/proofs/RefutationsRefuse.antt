@@ -23,7 +23,7 @@ use Rattle.qm_trees.specs.BoxPoints.{BeginIn}
 use Rattle.qm_trees.specs.Cuts.{HoldCuts}
 use Rattle.qm_trees.specs.Entries.{Combination}
 use Rattle.qm_trees.specs.Picks.{Fit, fixed, picked}
-use Rattle.qm_trees.specs.Ranges.{range_at, single}
+use Rattle.qm_model.specs.Ranges.{range_at, single}
 use Rattle.qm_trees.specs.Reaching.{HasValue}
 use Rattle.qm_trees.specs.RefuteJudgement.{Head, Layer, range_of, below_of}
 use Rattle.qm_trees.specs.RefuteRight.{IsRightClose, IsRightEnd, IsRightMove, IsRightPick, IsRightRefutation}
@@ -73,8 +73,8 @@ record Place (P : Problem) (xs : List Var) (depth : ℕ) (prefix : List ℤ) (bx
   others : drop depth bx ≡ whole_box_of (xs ++ continuous_vars P)
 
 -- the variables behind the prefix
-behind : (P : Problem) (xs : List Var) (depth : ℕ) (prefix : List ℤ) (bx : List Range) → Place P xs depth prefix bx → drop (length prefix) (whole_vars P) ≡ xs
-behind P xs depth prefix bx place = ap (λ n. drop n (whole_vars P)) place.count ∙ place.next
+variables_left : (P : Problem) (xs : List Var) (depth : ℕ) (prefix : List ℤ) (bx : List Range) → Place P xs depth prefix bx → drop (length prefix) (whole_vars P) ≡ xs
+variables_left P xs depth prefix bx place = ap (λ n. drop n (whole_vars P)) place.count ∙ place.next
 
 module _ (P : Problem) (x : Var) (xs : List Var) (depth : ℕ) (prefix : List ℤ) (bx : List Range) (place : Place P (x ∷ xs) depth prefix bx) where
   -- the next variable's range is its bounds
@@ -98,7 +98,7 @@ module _ (P : Problem) (x : Var) (xs : List Var) (depth : ℕ) (prefix : List �
   next_place r v has within = record {
     count = length-append prefix (v ∷ []) ∙ ap (λ n. n + 1) place.count;
     next = sym (drop-drop 1 depth (whole_vars P)) ∙ ap (drop 1) place.next;
-    within = BeginWithin-push (whole_vars P) prefix x xs v (behind P (x ∷ xs) depth prefix bx place) place.within within;
+    within = BeginWithin-push (whole_vars P) prefix x xs v (variables_left P (x ∷ xs) depth prefix bx place) place.within within;
     inside = subst (λ n. BeginIn (set bx n r) (prefix ++ v ∷ [])) place.count (begin_push bx prefix r v place.inside (omega (arith, place.count, depth_below)) has);
     others = drop-set-lt (depth + 1) bx depth r (omega arith) ∙ later_box;
   }
@@ -115,7 +115,7 @@ module _ (P : Problem) (x : Var) (xs : List Var) (depth : ℕ) (prefix : List �
     pick_fits : Fit (whole_vars P) (picked depth xs bx value completion) (us ++ value ∷ completion)
     pick_fits =
         let rest = fixed xs (drop (depth + 1) bx) completion in
-        let next = behind P (x ∷ xs) depth prefix bx place in
+        let next = variables_left P (x ∷ xs) depth prefix bx place in
         let here : Fit (x ∷ xs) (single value ∷ rest) (value ∷ completion) =
         next_fits x xs (single value) rest (value ∷ completion) universal (between_itself value, fit_fixed xs (drop (depth + 1) bx) completion pick.completion_fits) in
         subst (λ n. Fit (whole_vars P) (take n bx ++ single value ∷ rest) (us ++ value ∷ completion)) place.count
@@ -128,7 +128,7 @@ module _ (P : Problem) (x : Var) (xs : List Var) (depth : ℕ) (prefix : List �
         let play = play_of_legal P prefix legal in
         let later : AreWithin (filter is_universal xs) completion =
         fit_within xs (continuous_vars P) completion (subst (λ b. Fit xs b completion) later_box pick.completion_fits) in
-        let rest = rest-universal P prefix x xs (behind P (x ∷ xs) depth prefix bx place) universal in
+        let rest = rest-universal P prefix x xs (variables_left P (x ∷ xs) depth prefix bx place) universal in
         record {
           within = both_within (universal_vars P) us (value ∷ completion) (parts_within (universal_vars P) us play.rest play.is_play.within).0
               (subst (λ ys. AreWithin ys (value ∷ completion)) (sym rest) (pick_within, later));
@@ -142,7 +142,7 @@ module _ (P : Problem) (cuts : List Row) (G : Goal) (sound : IsSound P) (proper 
   close_refuses : (xs : List Var) (depth : ℕ) (prefix : List ℤ) (bx : List Range) (combo : Combination) → Place P xs depth prefix bx → IsRightClose P cuts G bx combo
       → IsLegal P prefix → WinsFrom P G xs prefix → ⊥
   close_refuses xs depth prefix bx combo place right legal wins =
-      let next = behind P xs depth prefix bx place in
+      let next = variables_left P xs depth prefix bx place in
       let all = winning_rest P G xs prefix next legal wins in
       let full = prefix ++ all.rest in
       let y = all.wins.point in
@@ -169,7 +169,7 @@ module _ (P : Problem) (cuts : List Row) (G : Goal) (sound : IsSound P) (proper 
         → IsLegal P prefix → WinsFrom P G (x ∷ xs) prefix → ⊥
     move_refuses prefix bx (node.Close combo) place right legal wins = close_refuses (x ∷ xs) depth prefix bx combo place right legal wins
     move_refuses prefix bx (node.Over parts) place right legal wins =
-        let move = winning_move P G x xs prefix (behind P (x ∷ xs) depth prefix bx place) legal wins in
+        let move = winning_move P G x xs prefix (variables_left P (x ∷ xs) depth prefix bx place) legal wins in
         let v = move.value in
         let found : Finds range_of parts v = cover_finds range_of (range_at bx depth) parts v right.0 (in_next_range P x xs depth prefix bx place v move.within) in
         let part = found.1 in
@@ -179,7 +179,7 @@ module _ (P : Problem) (cuts : List Row) (G : Goal) (sound : IsSound P) (proper 
     move_refuses prefix bx (node.Pick value completion below) place right legal wins =
         let play = picked_play P x xs depth prefix bx place sound right.0 value completion right.1 legal in
         let within = pick_within P x xs depth prefix bx place sound right.0 value completion right.1 in
-        let still_legal = legal_with_play P prefix x xs (behind P (x ∷ xs) depth prefix bx place) value completion right.0 play in
+        let still_legal = legal_with_play P prefix x xs (variables_left P (x ∷ xs) depth prefix bx place) value completion right.0 play in
         later (prefix ++ value ∷ []) (slice_set bx depth (single value)) below (next_place P x xs depth prefix bx place (single value) value (between_itself value) within) right.2 still_legal
         (wins_against P G x xs prefix value right.0 wins within still_legal)
 

@@ -1,31 +1,23 @@
 -- A row holds at numerators over one denominator exactly where it holds at the fractions.
-use Rattle.std.proofs.Common.{refl, ◌↔◌, ℕ, suc, ◌<◌, List, [], ◌∷◌, map, arith, ℤ, pos, ◌+ℤ◌, ◌*ℤ◌}
+use Rattle.std.proofs.Common.{◌↔◌, ℕ, suc, ◌<◌, List, [], ◌∷◌, map, arith, ℤ, pos, ◌*ℤ◌}
 use Rattle.std.proofs.lemmas.Int.{ints}
-use Rattle.qm_math.specs.Fraction.{Fraction, whole, IsSame}
-use Rattle.qm_math.specs.Arithmetic.{sum_of, product_of}
+use Rattle.qm_math.specs.Fraction.{whole, IsSame}
+use Rattle.qm_math.specs.Arithmetic.{product_of}
 use Rattle.qm_math.specs.Sums.{sum_from}
 use Rattle.qm_math.specs.Over.{over}
-use Rattle.qm_math.proofs.Polynomials.{number, ◌⊕◌, ◌⊗◌}
-use Rattle.qm_math.proofs.Ring.{x0, x1, x2, x3, x4, x5, ring_from}
 use Rattle.qm_math.proofs.FractionLaws.{same_refl, same_sym, whole_den, sum_of_den, product_of_den}
 use Rattle.qm_math.proofs.FractionOrder.{at_most_congr}
-use Rattle.qm_math.proofs.Over.{over-at_most-whole}
+use Rattle.qm_math.proofs.Over.{over-at_most-whole, value_step}
 use Rattle.qm_model.specs.declared.row.Row.{Row}
 use Rattle.qm_model.specs.Linear.{coefficient, form}
 use Rattle.qm_model.specs.Points.{HoldsOver}
 use Rattle.qm_trees.specs.BoxPoints.{form_of, HoldsAt}
 
-form_step : (d : ℕ) (k m n : ℤ) (t : Fraction) → IsSame t (over d n) → IsSame (sum_of (product_of (whole k) (over d m)) t) (over d ((k *ℤ m) +ℤ n))
-unfolding sum_of product_of
-form_step d k m n t e =
-    ring_from (m ∷ n ∷ pos d ∷ t.num ∷ pos t.den ∷ k ∷ []) ((x5 ⊗ x0 ⊗ x4 ⊕ x3 ⊗ (number (pos 1) ⊗ x2)) ⊗ x2) ((x5 ⊗ x0 ⊕ x1) ⊗ (number (pos 1) ⊗ x2 ⊗ x4))
-    ((x2, x3 ⊗ x2, x1 ⊗ x4) ∷ []) (e, tt) refl
-
 pub form_of-over : (d : ℕ) (k : ℕ → ℤ) (var : ℕ) (ns : List ℤ)
     → IsSame (form_of (λ n. whole (k n)) var (map (over d) ns)) (over d (sum_from (λ n v. k n *ℤ v) var ns))
 form_of-over d k var [] = omega (arith, ints)
 form_of-over d k var (v ∷ ns) =
-    form_step d (k var) v (sum_from (λ n v. k n *ℤ v) (suc var) ns) (form_of (λ n. whole (k n)) (suc var) (map (over d) ns)) (form_of-over d k (suc var) ns)
+    value_step d (k var) v (sum_from (λ n v. k n *ℤ v) (suc var) ns) (form_of (λ n. whole (k n)) (suc var) (map (over d) ns)) (form_of-over d k (suc var) ns)
 
 pub form_of-over_den : (d : ℕ) (k : ℕ → ℤ) (var : ℕ) (ns : List ℤ) → 0 < d → 0 < (form_of (λ n. whole (k n)) var (map (over d) ns)).den
 form_of-over_den d k var [] h = whole_den (pos 0)

@@ -9,7 +9,7 @@ use Rattle.qm_model.specs.declared.variable.Var.{Var}
 use Rattle.qm_model.specs.declared.game.Problem.{Problem}
 use Rattle.qm_trees.specs.declared.policy.Policy.{Policy, out-Policy}
 use Rattle.qm_trees.specs.declared.policy.Below.TheOpen as node
-use Rattle.qm_trees.specs.Ranges.{single}
+use Rattle.qm_model.specs.Ranges.{single}
 use Rattle.qm_trees.specs.PolicyJudgement.{Layer, BelowLayer, range_of, below_of}
 use Rattle.qm_trees.specs.PolicyRight.{IsRightBelow, IsRightEnd, IsRightMove, IsRightPolicy, IsBelowInRange, IsEndInRange, IsMoveInRange, IsPolicyInRange}
 use Rattle.qm_trees.specs.Evaluation.{zero, least_end_by}

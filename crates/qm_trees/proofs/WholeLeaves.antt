@@ -10,6 +10,7 @@ use Rattle.std.proofs.lemmas.Option.{slice_get-get_or}
 use Rattle.qm_math.specs.Fraction.{Fraction, whole, is_at_most}
 use Rattle.qm_math.specs.Ranges.{reach, least_product, greatest_product}
 use Rattle.qm_math.proofs.Between.{least_product_size, greatest_product_size}
+use Rattle.qm_math.proofs.WholeTests.{test_of_le}
 use Rattle.qm_frac.specs.Arithmetic.{quotient}
 use Rattle.qm_frac.specs.Checked.{Checked, and_then, added, multiplied, divided}
 use Rattle.qm_frac.proofs.WholeSteps.{added-whole, multiplied-whole}
@@ -28,8 +29,7 @@ use Rattle.qm_model.proofs.TermSums.{sum_over-sum_at}
 use Rattle.qm_model.proofs.VariableSizes.{greatest-least_value}
 use Rattle.qm_trees.specs.Evaluation.{zero, least_end_by, greatest_end_by}
 use Rattle.qm_trees.specs.Leaves.{value_at, add_terms, row_holds, rows_hold, objective_reaches, are_in_bounds, leaf_passes}
-use Rattle.qm_trees.specs.Ranges.{range_at, single}
-use Rattle.qm_trees.proofs.Lines.{test_of_le}
+use Rattle.qm_model.specs.Ranges.{range_at, single}
 use Rattle.qm_trees.proofs.WholeValues.{objective_sizes, row_sizes, objective_vars_below, row_vars_below, greatest_objective, greatest_objective_size, greatest_size, objective_by_scale, at_most_itself}
 
 -- ---- sums of terms

@@ -8,6 +8,7 @@ use Rattle.qm_math.specs.Fraction.{Fraction, whole, is_below, is_at_most}
 use Rattle.qm_math.specs.Ranges.{reach, least_product}
 use Rattle.qm_math.specs.Sums.{sum_from}
 use Rattle.qm_math.proofs.Between.{least_product_size}
+use Rattle.qm_math.proofs.WholeTests.{test_of_lt, test_of_le, eq_of_test}
 use Rattle.qm_frac.specs.Arithmetic.{quotient}
 use Rattle.qm_frac.specs.Checked.{Checked, and_then, added, subtracted, multiplied, divided}
 use Rattle.qm_frac.proofs.CheckedLaws.{and_then_assoc}
@@ -29,10 +30,6 @@ use Rattle.qm_trees.specs.declared.combination.ComboValue.TheVariants.{Nothing, 
 use Rattle.qm_trees.specs.Entries.{Weighted, with_row}
 use Rattle.qm_trees.specs.Evaluation.{zero, least_end_by, add_right_sides, add_coefficients, less_objective, add_least, add_variables, value_of}
 use Rattle.qm_trees.specs.Closing.{closes_goal, is_empty_range, closing}
-use Rattle.qm_trees.proofs.Lines.{test_of_lt, test_of_le}
-
-is_zero : (k : ℤ) → int_eq k (pos 0) ≡ true → k ≡ pos 0
-is_zero k e = grind (arith, ints)
 
 -- ---- one variable
 
@@ -61,7 +58,7 @@ least_whole k r s fits = by_test (int_eq k (pos 0)) refl
 
     by_test : (b : Bool) → int_eq k (pos 0) ≡ b
         → (if b then Ok (whole s) else and_then (multiplied (whole k) (whole (least_end_by k r))) (λ p. added (whole s) p)) ≡ Ok (whole (s +ℤ least_product k r.low r.high))
-    by_test true e = ap (λ (n : ℤ). Ok (whole n)) (zero_part k r s (is_zero k e))
+    by_test true e = ap (λ (n : ℤ). Ok (whole n)) (zero_part k r s (eq_of_test k (pos 0) e))
     by_test false e = ap (λ (x : Checked Fraction). and_then x (λ p. added (whole s) p)) product ∙ total
 
 -- ---- all variables
@@ -107,7 +104,7 @@ negated_coefficient : (c : ℤ) → unsigned_abs c < 2 ^ 127 → (let x : Checke
 negated_coefficient c fits = by_test (int_eq c (pos 0)) refl
   where
     by_test : (b : Bool) → int_eq c (pos 0) ≡ b → (let x : Checked Fraction = if b then Ok zero else subtracted zero (whole c) in x) ≡ Ok (whole (neg_ℤ c))
-    by_test true e = ap (λ (n : ℤ). Ok (whole (neg_ℤ n))) (sym (is_zero c e))
+    by_test true e = ap (λ (n : ℤ). Ok (whole (neg_ℤ n))) (sym (eq_of_test c (pos 0) e))
     by_test false e =
         let z = zero_minus c in
         subtracted-whole (pos 0) c (omega arith) fits (rw (z, unsigned_abs-neg c) fits) ∙ ap (λ (n : ℤ). Ok (whole n)) z
@@ -199,7 +196,7 @@ single_coefficient c fits = by_test (int_eq c (pos 0)) refl
 
     by_test : (b : Bool) → int_eq c (pos 0) ≡ b
         → (let x : Checked Fraction = if b then Ok zero else and_then (multiplied (whole (pos 1)) (whole c)) (λ p. and_then (added zero p) (λ d. Ok d)) in x) ≡ Ok (whole c)
-    by_test true e = ap (λ (n : ℤ). Ok (whole n)) (sym (is_zero c e))
+    by_test true e = ap (λ (n : ℤ). Ok (whole n)) (sym (eq_of_test c (pos 0) e))
     by_test false e =
         ap (λ (x : Checked Fraction). and_then x (λ p. and_then (added zero p) last)) (multiplied_by_one c fits)
         ∙ ap (λ (x : Checked Fraction). and_then x last) (added_to_zero c fits)

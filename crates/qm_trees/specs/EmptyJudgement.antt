@@ -19,7 +19,8 @@ use Rattle.qm_trees.specs.Entries.{Combination, all_positive, row_named, weighte
 use Rattle.qm_trees.specs.Evaluation.{value_of, ◌>>=◌}
 use Rattle.qm_trees.specs.Closing.{is_empty_range}
 use Rattle.qm_trees.specs.Verdicts.{Verdict, Broken, line, ◌then◌}
-use Rattle.qm_trees.specs.Ranges.{range_at, judge_parts}
+use Rattle.qm_model.specs.Ranges.{range_at}
+use Rattle.qm_trees.specs.Ranges.{judge_parts}
 
 -- one level of a tree
 abbrev pub Layer : Type 0

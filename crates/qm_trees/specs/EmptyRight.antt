@@ -11,7 +11,7 @@ use Rattle.qm_trees.specs.declared.empty.Empty.{Empty, out-Empty}
 use Rattle.qm_trees.specs.declared.empty.Empty.TheOpen as node
 use Rattle.qm_trees.specs.Entries.{Combination, IsPositive, weighted_rows}
 use Rattle.qm_trees.specs.Evaluation.{right_side, least_combined}
-use Rattle.qm_trees.specs.Ranges.{range_at}
+use Rattle.qm_model.specs.Ranges.{range_at}
 use Rattle.qm_trees.specs.EmptyJudgement.{Layer, range_of, below_of, all_uncertain, contradicts}
 
 -- a universal variable's range is empty

@@ -11,7 +11,7 @@ use Rattle.qm_model.specs.declared.variable.Var.{Var}
 use Rattle.qm_model.specs.declared.game.Problem.{Problem}
 use Rattle.qm_model.specs.Points.{continuous_vars}
 use Rattle.qm_trees.specs.Evaluation.{zero, least_end_by, greatest_end_by, ◌>>=◌}
-use Rattle.qm_trees.specs.Ranges.{range_at}
+use Rattle.qm_model.specs.Ranges.{range_at}
 
 -- the value of a term's variable: an end of its range by the coefficient for a whole one, its own for a continuous one
 abbrev pub value_at : (ℤ → Range → ℤ) → Problem → List Range → List Fraction → Term → Fraction

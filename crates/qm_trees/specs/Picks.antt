@@ -9,7 +9,7 @@ use Rattle.qm_model.specs.declared.game.Problem.{Problem}
 use Rattle.qm_model.specs.Boxes.{greatest_value}
 use Rattle.qm_model.specs.Plays.{is_universal}
 use Rattle.qm_model.specs.Wins.{MatchPlayer}
-use Rattle.qm_trees.specs.Ranges.{single, is_in}
+use Rattle.qm_model.specs.Ranges.{single, is_in}
 
 -- how many of the variables are universal
 abbrev pub universal_count : List Var → ℕ

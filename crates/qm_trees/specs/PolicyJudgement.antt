@@ -12,7 +12,8 @@ use Rattle.qm_trees.specs.declared.policy.Below.TheOpen as node
 use Rattle.qm_trees.specs.declared.policy.PolicyPart.{PolicyPart, out-PolicyPart}
 use Rattle.qm_trees.specs.declared.policy.Below.{Below, out-Below}
 use Rattle.qm_trees.specs.Verdicts.{Verdict, Fine, Broken, line, ◌then◌}
-use Rattle.qm_trees.specs.Ranges.{range_at, single, is_in, judge_parts}
+use Rattle.qm_model.specs.Ranges.{range_at, single, is_in}
+use Rattle.qm_trees.specs.Ranges.{judge_parts}
 use Rattle.qm_trees.specs.Leaves.{leaf_passes}
 use Rattle.qm_trees.specs.EmptyJudgement.{judge_empty}
 

@@ -11,7 +11,7 @@ use Rattle.qm_model.specs.Boxes.{Cover}
 use Rattle.qm_model.specs.Plays.{whole_vars}
 use Rattle.qm_trees.specs.declared.policy.Policy.{Policy, out-Policy}
 use Rattle.qm_trees.specs.declared.policy.Below.TheOpen as node
-use Rattle.qm_trees.specs.Ranges.{range_at, single}
+use Rattle.qm_model.specs.Ranges.{range_at, single}
 use Rattle.qm_trees.specs.Leaves.{IsRightLeaf, row_holds, objective_reaches}
 use Rattle.qm_trees.specs.EmptyRight.{IsRightEmpty, IsEmptyInRange}
 use Rattle.qm_trees.specs.PolicyJudgement.{Layer, BelowLayer, range_of, below_of}

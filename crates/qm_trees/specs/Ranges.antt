@@ -1,20 +1,9 @@
 -- Ranges that cover a range, judged line by line.
-use Rattle.std.specs.Prelude.{ℕ, ℤ, pos, ◌+ℤ◌, Bool, true, false, not, ◌&&◌, ◌==◌, int_le, int_lt, List, [], ◌∷◌, length, Ok, slice_index_or}
+use Rattle.std.specs.Prelude.{ℕ, ℤ, pos, ◌+ℤ◌, Bool, true, false, not, ◌&&◌, ◌==◌, int_le, int_lt, List, [], ◌∷◌, length, Ok}
 use Rattle.std.specs.Ordering.{int_eq}
 use Rattle.qm_model.specs.declared.range.Range.{Range}
 use Rattle.qm_trees.specs.declared.rule.Rule.TheVariants as rule
 use Rattle.qm_trees.specs.Verdicts.{Verdict, Fine, line, ◌then◌}
-
--- the range of one value
-abbrev pub single : ℤ → Range
-single v = record { low = v; high = v }
-
--- the range of a variable in a box
-abbrev pub range_at : List Range → ℕ → Range
-range_at bx var = slice_index_or bx var (single (pos 0))
-
-abbrev pub is_in : Range → ℤ → Bool
-is_in r v = int_le r.low v && int_le v r.high
 
 abbrev pub same : Bool → Bool → Bool
 same true b = b

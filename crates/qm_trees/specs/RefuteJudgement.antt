@@ -16,7 +16,8 @@ use Rattle.qm_trees.specs.declared.refutation.RefutePart.{RefutePart, out-Refute
 use Rattle.qm_trees.specs.Entries.{Combination, all_positive, row_named, weighted_rows}
 use Rattle.qm_trees.specs.Closing.{closing}
 use Rattle.qm_trees.specs.Verdicts.{Verdict, Broken, line, ◌then◌}
-use Rattle.qm_trees.specs.Ranges.{range_at, single, is_in, counts_right, judge_each}
+use Rattle.qm_model.specs.Ranges.{range_at, single, is_in}
+use Rattle.qm_trees.specs.Ranges.{counts_right, judge_each}
 use Rattle.qm_trees.specs.Picks.{universal_count, fit, picked, meet_on_box}
 
 -- what a lemma says: from no prefix of this depth in these ranges the goal can be reached

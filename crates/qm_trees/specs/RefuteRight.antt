@@ -13,7 +13,7 @@ use Rattle.qm_trees.specs.declared.refutation.Refute.{Refute, out-Refute}
 use Rattle.qm_trees.specs.declared.refutation.Refute.TheOpen as node
 use Rattle.qm_trees.specs.Entries.{Combination, IsPositive, row_named, weighted_rows}
 use Rattle.qm_trees.specs.Closing.{Closes, closing}
-use Rattle.qm_trees.specs.Ranges.{range_at, single}
+use Rattle.qm_model.specs.Ranges.{range_at, single}
 use Rattle.qm_trees.specs.Picks.{Fit, HoldsOnBox, picked}
 use Rattle.qm_trees.specs.RefuteJudgement.{Head, Layer, range_of, below_of}
 

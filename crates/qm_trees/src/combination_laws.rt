@@ -28,7 +28,8 @@ pub fn closing_is_exact()
 {}
 
 /// Multipliers that are not negative: at each point of the box where the rows hold, the least combined value is at
-/// most the right side, and the objective at most the bound; and no such point reaches a goal that is closed.
+/// most the right side, and the objective at most the bound; and no such point reaches a goal that is closed. This is
+/// the half of Farkas' lemma by which combinations prove something.
 pub fn combinations_are_sound()
     ensures rows { (P : Problem) (bx : List Range) (xs : List Fraction) (ws : List Weighted) → IsInBox bx xs → All (λ w. HasPositiveDen w.by) ws → All (λ w. IsAtMost (whole (pos 0)) w.by) ws → All (λ w. HoldsAt xs w.row) ws → IsAtMost (least_combined P false ws bx) (right_side P false ws) }
     ensures bound { (P : Problem) (bx : List Range) (xs : List Fraction) (ws : List Weighted) → pos 1 ≤ℤ P.scale → IsInBox bx xs → All (λ w. HasPositiveDen w.by) ws → All (λ w. IsAtMost (whole (pos 0)) w.by) ws → All (λ w. HoldsAt xs w.row) ws → IsAtMost (objective_of P xs) (bound_of P ws bx) }

@@ -1,6 +1,13 @@
 //! Combinations of rows, policies, refutations and empty trees: the data of a certificate, and when it is right.
-//! `specs/` says each twice: without an order, and as a judgement in the order of the text, whose first fault
-//! is a broken rule or an operation that leaves.
+//!
+//! `specs/` says each twice: without an order, exactly and in unbounded fractions (`PolicyRight`, `RefuteRight`,
+//! `EmptyRight`), and as a judgement in the order of the text, operation by operation, whose first fault is a broken
+//! rule or an operation that leaves (`PolicyJudgement`, `RefuteJudgement`, `EmptyJudgement`, over `Verdicts` and
+//! `Ranges`). A combination closes a goal by Farkas' lemma: rows times multipliers above 0 contradict the box, or bound
+//! the objective (`Entries`, `Evaluation`, `Closing`, `BoxPoints`).
+//! The laws: a judgement is fine exactly where the tree is right and no operation leaves; a right policy wins its
+//! value, play by play (`Reaching`); against a right refutation, whose cuts hold (`Cuts`), nobody wins the goal; no
+//! play has its values in the box of a right empty tree (`Picks`).
 #![tactic(auto)]
 
 mod combination;

@@ -2,13 +2,12 @@
 ghost use Rattle.std.specs.Prelude.{◌≡◌, All, IfOk, length};
 ghost use Rattle.qm_model.specs.Sound.{IsWhole};
 
-use super::{binary, choose};
+use super::choose;
 use crate::test;
 use qm_frac::Frac;
 use qm_game::{Game, Player, Problem, Sense, Terms, Var, whole_box};
 use qm_io::{List, Memory};
 use qm_trees::Policy;
-use smallvec::SmallVec;
 use std::alloc::{AllocError, Global};
 use std::test::Fail;
 
@@ -20,7 +19,7 @@ fn deep_vars(alloc: Global) -> Result<List<Var>, Memory>
 {
     let mut vars = List::new(alloc);
     for _ in 0..DEPTH {
-        vars.push(binary(alloc, Player::Exists))?;
+        vars.push(Var::binary(List::new(alloc), Player::Exists))?;
     }
     Ok(vars)
 }
@@ -33,7 +32,7 @@ fn deep_game(alloc: Global) -> Result<Game, Memory> {
         wholes: DEPTH,
         rows: List::new(alloc),
         urows: List::new(alloc),
-        terms: Terms::new(SmallVec::new(alloc)),
+        terms: Terms::none(alloc),
         constant: 0,
         scale: 1,
     }))

@@ -1,11 +1,9 @@
 // Policies of problems in which the universal player has rows of its own.
 use crate::test;
 use crate::tests::choose;
-use crate::tests::pieces::{
-    answer_both, answer_each, close_by, close_by_two, row, split, term, terms, whole_var,
-};
+use crate::tests::pieces::{answer_both, answer_each, close_by, close_by_two, split};
 use qm_frac::Frac;
-use qm_game::{Game, Player, Problem, Sense, whole_box};
+use qm_game::{Game, Player, Problem, Row, Sense, Term, Terms, Var, whole_box};
 use qm_io::{List, Memory};
 use qm_trees::{Below, Empty, Policy};
 use std::alloc::Global;
@@ -14,20 +12,24 @@ use std::test::Fail;
 // Minimise x from 0 to 2, where x is at least a + b; these are the universal player's, and a + b is at most 1.
 fn cover(alloc: Global) -> Result<Game, Memory> {
     let mut vars = List::new(alloc);
-    vars.push(whole_var(alloc, Player::All, 1))?;
-    vars.push(whole_var(alloc, Player::All, 1))?;
-    vars.push(whole_var(alloc, Player::Exists, 2))?;
+    vars.push(Var::binary(List::new(alloc), Player::All))?;
+    vars.push(Var::binary(List::new(alloc), Player::All))?;
+    vars.push(Var::whole_to(List::new(alloc), Player::Exists, 2))?;
     let mut rows = List::new(alloc);
-    rows.push(row(alloc, &[term(0, 1), term(1, 1), term(2, -1)], 0)?)?;
+    rows.push(Row::of(
+        alloc,
+        &[Term::new(0, 1), Term::new(1, 1), Term::new(2, -1)],
+        0,
+    )?)?;
     let mut urows = List::new(alloc);
-    urows.push(row(alloc, &[term(0, 1), term(1, 1)], 1)?)?;
+    urows.push(Row::of(alloc, &[Term::new(0, 1), Term::new(1, 1)], 1)?)?;
     Ok(Game::new(Problem {
         sense: Sense::Min,
         vars,
         wholes: 3,
         rows,
         urows,
-        terms: terms(alloc, &[term(2, -1)])?,
+        terms: Terms::of(alloc, &[Term::new(2, -1)])?,
         constant: 0,
         scale: 1,
     }))
@@ -76,21 +78,29 @@ fn what_is_called_illegal_is_to_be_shown(rt: HostRuntime) -> Result<(), Fail> {
 // Maximise -a, where b is c and a + b + c is 2, and all are the universal player's.
 fn pair(alloc: Global) -> Result<Game, Memory> {
     let mut vars = List::new(alloc);
-    vars.push(whole_var(alloc, Player::All, 1))?;
-    vars.push(whole_var(alloc, Player::All, 1))?;
-    vars.push(whole_var(alloc, Player::All, 1))?;
+    vars.push(Var::binary(List::new(alloc), Player::All))?;
+    vars.push(Var::binary(List::new(alloc), Player::All))?;
+    vars.push(Var::binary(List::new(alloc), Player::All))?;
     let mut urows = List::new(alloc);
-    urows.push(row(alloc, &[term(1, 1), term(2, -1)], 0)?)?;
-    urows.push(row(alloc, &[term(1, -1), term(2, 1)], 0)?)?;
-    urows.push(row(alloc, &[term(0, 1), term(1, 1), term(2, 1)], 2)?)?;
-    urows.push(row(alloc, &[term(0, -1), term(1, -1), term(2, -1)], -2)?)?;
+    urows.push(Row::of(alloc, &[Term::new(1, 1), Term::new(2, -1)], 0)?)?;
+    urows.push(Row::of(alloc, &[Term::new(1, -1), Term::new(2, 1)], 0)?)?;
+    urows.push(Row::of(
+        alloc,
+        &[Term::new(0, 1), Term::new(1, 1), Term::new(2, 1)],
+        2,
+    )?)?;
+    urows.push(Row::of(
+        alloc,
+        &[Term::new(0, -1), Term::new(1, -1), Term::new(2, -1)],
+        -2,
+    )?)?;
     Ok(Game::new(Problem {
         sense: Sense::Max,
         vars,
         wholes: 3,
         rows: List::new(alloc),
         urows,
-        terms: terms(alloc, &[term(0, -1)])?,
+        terms: Terms::of(alloc, &[Term::new(0, -1)])?,
         constant: 0,
         scale: 1,
     }))

@@ -1,51 +1,13 @@
 // What games with uncertainty rows are made of, and trees that show what is illegal.
-ghost use Rattle.std.specs.Prelude.{◌≡◌, ◌<◌, ◌∷◌, [], IfOk, pos, true};
-ghost use Rattle.qm_model.specs.Linear.{IsOrdered};
+ghost use Rattle.std.specs.Prelude.{◌<◌};
 
 use qm_combo::{Combo, Empty, EmptyPart, Entry};
 use qm_frac::Frac;
-use qm_game::{Player, Range, Row, RowId, Term, Terms, Var};
-use qm_io::{List, Memory};
+use qm_game::{Range, RowId};
+use qm_io::Memory;
 use qm_trees::{Below, Policy, PolicyPart};
-use smallvec::SmallVec;
 use sqlite_items::Items;
 use std::alloc::{AllocError, Global};
-
-/// A whole variable from 0.
-pub(super) fn whole_var(alloc: Global, player: Player, high: i64) -> Var
-    ensures { result ≡ record { name = []; player = player; whole = true; low = pos 0; high = high } }
-{
-    Var {
-        name: List::new(alloc),
-        player,
-        whole: true,
-        low: 0,
-        high,
-    }
-}
-
-pub(super) fn term(var: u32, coef: i128) -> Term
-    ensures { result ≡ record { var = var; coef = coef } }
-{
-    Term { var, coef }
-}
-
-pub(super) fn terms(alloc: Global, items: &[Term]) -> Result<Terms, Memory>
-    requires { IsOrdered items.now }
-    ensures { IfOk result (λ terms. terms ≡ items.now) }
-{
-    Ok(Terms::new(SmallVec::from_slice(alloc, items)?))
-}
-
-pub(super) fn row(alloc: Global, items: &[Term], right: i128) -> Result<Row, Memory>
-    requires { IsOrdered items.now }
-    ensures { IfOk result (λ row. row ≡ record { terms = items.now; right = right }) }
-{
-    Ok(Row {
-        terms: terms(alloc, items)?,
-        right,
-    })
-}
 
 pub(super) fn range(low: i64, high: i64) -> Range {
     Range { low, high }

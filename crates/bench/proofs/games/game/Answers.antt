@@ -1,9 +1,9 @@
-use Rattle.std.proofs.Common.{◌∙◌, refl}
+use Rattle.std.proofs.Common.{refl}
 use Rattle.bench.proofs.PlainGames.{plain-sound}
 use Rattle.bench.proofs.games.game.Goals as goal
 
-pub new-requires-3 : goal.new-requires-3
-new-requires-3 c =
+pub new-requires : goal.new-requires
+new-requires c =
     plain-sound c.args.universals _
     (record {
       some_universals = c.requires.universals;
@@ -15,7 +15,7 @@ new-requires-3 c =
       plain_rows = c.in_ok-rows.ensures.plain;
       few_urows = c.requires.few;
       plain_urows = c.requires.urows;
-      terms = c.new-2.ensures ∙ c.new.ensures.items;
+      terms = c.none.ensures;
       constant = refl;
       scale = refl;
     })

@@ -1,6 +1,6 @@
 use Rattle.std.proofs.Common.{◌++◌, map}
 use Rattle.std.specs.Prelude.{codes}
-use Rattle.qm_certfile.specs.Pieces.{spaced}
+use Rattle.qm_certfile.specs.LineSteps.{spaced}
 use Rattle.qm_certfile.specs.Styles.{first_style}
 use Rattle.qm_certfile.specs.TreeLines.{entry_word, objective_words}
 use Rattle.qm_certfile.proofs.LineTexts.{line_wrote, on_ok, spaced_append, wrote}

@@ -1,5 +1,5 @@
 use Rattle.std.proofs.Common.{◌≡◌, ◌++◌, map, drop}
-use Rattle.qm_certfile.specs.Pieces.{spaced}
+use Rattle.qm_certfile.specs.LineSteps.{spaced}
 use Rattle.qm_certfile.specs.Styles.{first_style}
 use Rattle.qm_certfile.specs.TreeLines.{entry_word}
 use Rattle.qm_certfile.proofs.lines.write_entries.Given as goal

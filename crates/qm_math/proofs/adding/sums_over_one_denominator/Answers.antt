@@ -1,4 +1,4 @@
-use Rattle.qm_math.proofs.Over.{total_of-over, value_at-over, over-at_most, common_nums-same, common_den_pos}
+use Rattle.qm_math.proofs.Over.{total_of-over, dot_product-over, over-at_most, common_nums-same, common_den_pos}
 use Rattle.qm_math.proofs.adding.sums_over_one_denominator.Goals as goal
 
 pub returns-clause-sum : goal.returns-clause-sum
@@ -14,4 +14,4 @@ pub returns-clause-positive : goal.returns-clause-positive
 returns-clause-positive c = common_den_pos
 
 pub returns-clause-row : goal.returns-clause-row
-returns-clause-row c = value_at-over
+returns-clause-row c = dot_product-over

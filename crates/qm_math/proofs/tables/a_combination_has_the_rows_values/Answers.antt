@@ -1,5 +1,5 @@
-use Rattle.qm_math.proofs.Combinations.{value_at-combined_row}
+use Rattle.qm_math.proofs.Combinations.{dot_product-combined_row}
 use Rattle.qm_math.proofs.tables.a_combination_has_the_rows_values.Goals as goal
 
 pub returns : goal.returns
-returns c = value_at-combined_row
+returns c = dot_product-combined_row

@@ -1,7 +1,7 @@
 use Rattle.std.proofs.Common.{◌≡◌, sym, ◌∙◌, arith}
 use Rattle.std.specs.Int.{w128, cast_signed, cast_unsigned}
 use Rattle.std.proofs.lemmas.Int.{ints}
-use Rattle.qm_normal.specs.Widths.{IsNarrowRow}
+use Rattle.qm_normal.specs.RowSteps.{IsNarrowRow}
 use Rattle.qm_normal.proofs.RowsOfTotals.{scaled-narrow, scaled-wide, scaled-wide_den}
 use Rattle.qm_normal.proofs.objective.scaled_objective.Goals as goal
 

@@ -9,7 +9,7 @@ use Rattle.qm_normal.specs.declared.fault.NormalFault.TheVariants as fault
 use Rattle.qm_normal.specs.declared.fault.Which.{Which}
 use Rattle.qm_normal.specs.Rows.{normal_row}
 use Rattle.qm_normal.specs.Variables.{game_order, vars_of}
-use Rattle.qm_normal.specs.Sections.{part_of, rows_in}
+use Rattle.qm_normal.specs.RowSteps.{part_of, rows_in}
 use Rattle.qm_normal.proofs.RowLists.{front-nil, last_rows, turn_rows, wide_rows}
 use Rattle.qm_normal.proofs.rows.rows_of_section.Goals as goal
 

@@ -1,6 +1,6 @@
 use Rattle.std.proofs.Common.{◌≡◌, drop}
 use Rattle.qm_normal.specs.Normal.{rows_from, with_front}
-use Rattle.qm_normal.specs.Sections.{part_of, rows_in}
+use Rattle.qm_normal.specs.RowSteps.{part_of, rows_in}
 use Rattle.qm_normal.proofs.rows.rows_of_section.Given as goal
 
 abbrev pub invariant-loop-before : goal.invariant-loop-before

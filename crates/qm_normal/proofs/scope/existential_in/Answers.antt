@@ -1,6 +1,6 @@
 use Rattle.std.proofs.Common.{not, sym, arith}
 use Rattle.qm_parse.specs.Checks.{term_use}
-use Rattle.qm_normal.specs.Tables.{universal_by}
+use Rattle.qm_normal.specs.TableSteps.{universal_by}
 use Rattle.qm_normal.proofs.FirstInParts.{in_later_part, in_no_part, in_part}
 use Rattle.qm_normal.proofs.scope.existential_in.Goals as goal
 

@@ -1,6 +1,6 @@
 use Rattle.std.proofs.Common.{not, sym, arith, ◌∙◌}
 use Rattle.qm_parse.specs.Checks.{term_uses}
-use Rattle.qm_normal.specs.Tables.{universal_by}
+use Rattle.qm_normal.specs.TableSteps.{universal_by}
 use Rattle.qm_normal.proofs.FirstInParts.{in_later_part, in_no_part, in_part}
 use Rattle.qm_normal.proofs.Searches.{existential_same}
 use Rattle.qm_normal.proofs.scope.exists_in_uncertainty.Goals as goal

@@ -1,6 +1,6 @@
 use Rattle.std.proofs.Common.{◌≡◌, not, drop}
 use Rattle.qm_parse.specs.Checks.{first_such, row_uses}
-use Rattle.qm_normal.specs.Tables.{universal_by}
+use Rattle.qm_normal.specs.TableSteps.{universal_by}
 use Rattle.qm_normal.proofs.scope.exists_in_uncertainty.Given as goal
 
 abbrev pub invariant-loop-row : goal.invariant-loop-row

@@ -1,4 +1,4 @@
-use Rattle.qm_normal.specs.Tables.{high_by, low_by, whole_by}
+use Rattle.qm_normal.specs.TableSteps.{high_by, low_by, whole_by}
 use Rattle.qm_normal.proofs.NearEnds.{near_high, near_low}
 use Rattle.qm_normal.proofs.variables.var_of.Goals as goal
 

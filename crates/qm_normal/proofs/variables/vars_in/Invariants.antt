@@ -1,5 +1,5 @@
 use Rattle.std.proofs.Common.{◌≡◌, map, take}
-use Rattle.qm_normal.specs.Tables.{var_by}
+use Rattle.qm_normal.specs.TableSteps.{var_by}
 use Rattle.qm_normal.proofs.variables.vars_in.Given as goal
 
 abbrev pub invariant-loop-named : goal.invariant-loop-named

@@ -78,3 +78,13 @@ returns-clause-names c = named-all c.args.text.now c.loop-i.names _ c.args.token
 
 pub returns-clause-symbols : goal.returns-clause-symbols
 returns-clause-symbols c = spelled-all c.args.text.now _ _ c.loop-i.symbols c.args.tokens.now c.loop-i.i c.loop-i-test.false c.loop-i.invariant.spelled
+
+pub returns-clause-end : goal.returns-clause-end
+returns-clause-end c =
+    let text = c.args.text.now in
+    let at = c.loop-i.behind.at in
+    let rest = take (length text - at) (drop at text) in
+    let inside : at ≤ length text = c.loop-i.invariant.inside in
+    let line = c.place_behind-end.ensures.line ∙ ap (λ n. line_behind n rest) c.loop-i.invariant.line ∙ sym (line-through at (length text) text inside) in
+    let column = c.place_behind-end.ensures.column ∙ ap (λ n. column_behind n rest) c.loop-i.invariant.column ∙ sym (column-through at (length text) text inside) in
+    λ j. record { line = line j; column = column j }

@@ -1,32 +1,23 @@
-use Rattle.std.proofs.Common.{◌≡◌, ◌+◌, ◌*◌, ◌≤ℤ◌, length, drop}
-use Rattle.qm_trees.specs.Verdicts.{answer_of}
-use Rattle.qm_trees.specs.Ranges.{judge_each}
+use Rattle.std.proofs.Common.{◌-◌, ◌*◌, length}
 use Rattle.qm_trees.specs.PolicyJudgement.{range_of}
+use Rattle.qm_cover.proofs.PartSteps.{ArePassed}
 use Rattle.qm_policy.specs.Parts.{judge_part}
 use Rattle.qm_policy.proofs.walk.+test.Given as goal
 
 abbrev pub decreases-test_from : goal.decreases-test_from
-decreases-test_from l = 6 * length l.rest.now
-
-abbrev pub decreases-test_below : goal.decreases-test_below
-decreases-test_below l = 6 * length l.later.now + 1
-
-abbrev pub decreases-test_part : goal.decreases-test_part
-decreases-test_part l = 6 * length l.later.now + 2
-
-abbrev pub decreases-test_each : goal.decreases-test_each
-decreases-test_each l = 6 * length l.later.now + 3
-
-abbrev pub decreases-test_parts : goal.decreases-test_parts
-decreases-test_parts l = 6 * length l.later.now + 4
+decreases-test_from l = 5 * length l.here.rest.now
 
 abbrev pub decreases-test_answer : goal.decreases-test_answer
-decreases-test_answer l = 6 * length l.later.now + 5
+decreases-test_answer l = 5 * length l.here.rest.now - 1
+
+abbrev pub decreases-test_each : goal.decreases-test_each
+decreases-test_each l = 5 * length l.here.rest.now - 2
+
+abbrev pub decreases-test_part : goal.decreases-test_part
+decreases-test_part l = 5 * length l.here.rest.now - 3
+
+abbrev pub decreases-test_below : goal.decreases-test_below
+decreases-test_below l = 5 * length l.here.rest.now - 4
 
 abbrev pub invariant-test_each-loop-at : goal.invariant-test_each-loop-at
-invariant-test_each-loop-at l = record {
-  same : l.bx ≡ l.fn.bx;
-  reached : l.covered.low ≤ℤ l.next;
-  rest : answer_of (judge_each range_of (judge_part l.game l.value l.later l.depth l.fn.bx) l.next l.covered.high (drop l.at l.parts))
-      ≡ answer_of (judge_each range_of (judge_part l.game l.value l.later l.depth l.fn.bx) l.covered.low l.covered.high l.parts);
-}
+invariant-test_each-loop-at l = ArePassed range_of (judge_part l.here.game.now l.value l.here.rest.now l.here.depth) l.fn.bx l.covered l.parts l.bx l.next l.at

@@ -1,6 +1,6 @@
-use Rattle.std.proofs.Common.{sym, subst, refl, ◌∙◌}
-use Rattle.qm_model.proofs.BoxLaws.{IsBox-length}
+use Rattle.std.proofs.Common.{◌≡◌, sym, subst, ◌∙◌}
 use Rattle.qm_model.specs.Plays.{whole_vars}
+use Rattle.qm_trees.specs.Verdicts.{answer_of}
 use Rattle.qm_trees.specs.PolicyJudgement.{judge_policy}
 use Rattle.qm_trees.specs.PolicyRight.{IsRightPolicy}
 use Rattle.qm_trees.proofs.Lines.{fine_of_answer}
@@ -8,21 +8,14 @@ use Rattle.qm_trees.proofs.PolicyLines.{right_of_fine}
 use Rattle.qm_trees.proofs.PolicyReaches.{right_reaches, right_wins}
 use Rattle.qm_policy.proofs.walk.test.Goals as goal
 
-pub test_from-requires : goal.test_from-requires
-test_from-requires c =
-    rw (c.as_slice.ensures, c.problem-problem.ensures.value)
-    (record {
-      place = record { ranges = IsBox-length c.args.game.now.vars c.args.bx.now c.requires; rest_is = refl };
-      box = c.requires;
-    })
-
 pub returns-clause-right : goal.returns-clause-right
 returns-clause-right c =
-    let walked = rw (c.as_slice.ensures, c.problem-problem.ensures.value) at c.test_from.ensures in
+    let P = c.args.game.now in
     let scale = rw c.problem-problem.ensures.value at c.problem-problem.ensures.sound.scale_positive in
-    let judged = judge_policy c.args.game.now c.args.value.now (whole_vars c.args.game.now) 0 c.args.bx.now c.args.policy.now in
-    λ yes. (right_of_fine c.args.game.now c.args.value.now scale c.den-positive.ensures.terms.positive (whole_vars c.args.game.now) 0 c.args.bx.now c.args.policy.now
-    (fine_of_answer judged (sym walked.answer ∙ yes))).0
+    let judged = judge_policy P c.args.value.now (whole_vars P) 0 c.args.bx.now c.args.policy.now in
+    let walked : c.test_from.result ≡ answer_of judged = rw (c.at.result.from_depth, c.at.ensures.depth, c.at.ensures.game) at c.test_from.ensures.answer in
+    λ passes. (right_of_fine P c.args.value.now scale c.den-positive.ensures.terms.positive (whole_vars P) 0 c.args.bx.now c.args.policy.now
+    (fine_of_answer judged (sym walked ∙ passes))).0
 
 pub returns-clause-reaches : goal.returns-clause-reaches
 returns-clause-reaches c =

@@ -8,4 +8,4 @@ returns c =
     let named = rw (c.problem.ensures.value, c.entries.ensures.value) at c.all_named.ensures in
     let entries = rw c.entries.ensures.value at c.entries.ensures.ordered in
     c.closes.ensures
-    ∙ sym (named_closes c.args.game.now c.args.cuts.now c.args.bx.now (goal_of c.args.goal.now) c.args.combo.now entries (sym named ∙ c.if-not-all_named.false))
+    ∙ sym (named_closes c.args.game.now c.args.sought.cuts.now c.args.bx.now (goal_of c.args.sought.goal.now) c.args.combo.now entries (sym named ∙ c.if-not-all_named.false))

@@ -1,5 +1,5 @@
 use Rattle.std.proofs.Common.{sym, ◌∙◌, arith, pos}
-use Rattle.qm_trees.specs.Ranges.{single}
+use Rattle.qm_model.specs.Ranges.{single}
 use Rattle.qm_refute.proofs.Steps.{fit_all, fit_skip, fit_use}
 use Rattle.qm_refute.proofs.completion.fits.Goals as goal
 use Rattle.qm_refute.proofs.completion.fits.Goals.{then-is_for_all+else-used-completion+else-not-has_value, else-is_for_all}

@@ -2,8 +2,8 @@ use Rattle.std.proofs.Common.{◌+◌, subst, set}
 use Rattle.std.proofs.lemmas.Int.{to_z-of_z}
 use mir.Syntax.{w64}
 use Rattle.qm_model.specs.Goals.{Any, Above}
-use Rattle.qm_trees.specs.Ranges.{single}
-use Rattle.qm_search.specs.Outcomes.{IsOutcome}
+use Rattle.qm_model.specs.Ranges.{single}
+use Rattle.qm_search.specs.OutcomeSteps.{IsOutcome}
 use Rattle.qm_search.proofs.answer.legal_answer.Goals as goal
 
 pub returns-in_ok-pick-in-Lost : goal.returns-in_ok-pick-in-Lost

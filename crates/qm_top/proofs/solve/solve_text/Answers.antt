@@ -1,12 +1,14 @@
-use Rattle.std.proofs.Common.{List, [], ◌∷◌, ℕ, refl, ap, ◌∙◌}
-use Rattle.std.specs.Prelude.{codes}
-use Rattle.qm_lex.specs.declared.place.Place.{Place}
-use Rattle.qm_top.specs.Answers.{refused}
-use Rattle.qm_top.specs.FaultLines.{text_line}
-use Rattle.qm_top.specs.Refusals.{bad_byte}
+use Rattle.qm_top.specs.Report.{status_of, text_of}
+use Rattle.qm_top.specs.Answers.{SolvesProblem, SolvesText}
+use Rattle.qm_top.proofs.Answering.{IfOk-map, Reports, game_answered, refused_answered}
 use Rattle.qm_top.proofs.solve.solve_text.Goals as goal
 
-pub returns-in_ok-kind_line-in-Err-BadByte : goal.returns-in_ok-kind_line-in-Err-BadByte
-returns-in_ok-kind_line-in-Err-BadByte c =
-    let bad = c.tokens.ensures.bad c.in-Err-BadByte.at cc in
-    refused (bad_byte bad.0 bad.1 refl (c.in_ok-kind_line-in-Err-BadByte.ensures ∙ ap (λ (at : Place). text_line at (codes "byte" ∷ [])) bad.2))
+pub returns-in-Refused : goal.returns-in-Refused
+returns-in-Refused c =
+    refused_answered c.args.text c.as_slice.result.now c.in_ok-stated.stated c.in-Refused.report c.as_slice.ensures c.in-Refused.is c.in_ok-stated.ensures
+
+pub returns-in-Game : goal.returns-in-Game
+returns-in-Game c =
+    IfOk-map (Reports (SolvesProblem c.in-Game.game)) (Reports (SolvesText c.args.text)) c.solve_game.result
+    (λ report solves. game_answered c.args.text c.as_slice.result.now c.in_ok-stated.stated c.in-Game.game c.as_slice.ensures c.in-Game.is c.in_ok-stated.ensures (status_of report) (text_of report) solves)
+    c.solve_game.ensures

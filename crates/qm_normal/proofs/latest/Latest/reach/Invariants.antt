@@ -1,5 +1,5 @@
 use Rattle.std.proofs.Common.{◌≡◌, ℕ, ◌+◌, ◌-◌, length}
-use Rattle.qm_normal.specs.Tables.{value_by}
+use Rattle.qm_normal.specs.TableSteps.{value_by}
 use Rattle.qm_normal.proofs.latest.Latest.reach.Given as goal
 
 abbrev pub invariant-loop-self : goal.invariant-loop-self

@@ -1,5 +1,5 @@
 use Rattle.std.proofs.Common.{take}
-use Rattle.qm_normal.specs.Places.{IsPlacesOf}
+use Rattle.qm_normal.specs.PlaceSteps.{IsPlacesOf}
 use Rattle.qm_normal.proofs.places.Places.of.Given as goal
 
 abbrev pub invariant-loop-place : goal.invariant-loop-place

@@ -1,5 +1,5 @@
 use Rattle.std.proofs.Common.{◌≡◌, ℕ, ◌+◌, ◌-◌, length}
-use Rattle.qm_normal.specs.Places.{place_in}
+use Rattle.qm_normal.specs.PlaceSteps.{place_in}
 use Rattle.qm_normal.proofs.places.Places.reach.Given as goal
 
 abbrev pub invariant-loop-self : goal.invariant-loop-self

@@ -1,6 +1,6 @@
 use Rattle.std.proofs.Common.{take}
 use Rattle.qm_parse.specs.Checks.{bound_uses}
-use Rattle.qm_parse.specs.Surveys.{Adds}
+use Rattle.qm_parse.specs.SurveySteps.{Adds}
 use Rattle.qm_parse.proofs.survey.Survey.bounds.Given as goal
 
 abbrev pub invariant-loop-bound : goal.invariant-loop-bound

@@ -1,5 +1,5 @@
 use Rattle.std.proofs.Common.{take}
-use Rattle.qm_parse.specs.Surveys.{Adds}
+use Rattle.qm_parse.specs.SurveySteps.{Adds}
 use Rattle.qm_parse.proofs.survey.Survey.names.Given as goal
 
 abbrev pub invariant-loop-named : goal.invariant-loop-named

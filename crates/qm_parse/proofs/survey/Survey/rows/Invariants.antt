@@ -1,6 +1,6 @@
 use Rattle.std.proofs.Common.{take}
 use Rattle.qm_parse.specs.Checks.{row_uses}
-use Rattle.qm_parse.specs.Surveys.{Adds}
+use Rattle.qm_parse.specs.SurveySteps.{Adds}
 use Rattle.qm_parse.proofs.survey.Survey.rows.Given as goal
 
 abbrev pub invariant-loop-row : goal.invariant-loop-row

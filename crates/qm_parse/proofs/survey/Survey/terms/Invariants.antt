@@ -1,6 +1,6 @@
 use Rattle.std.proofs.Common.{take}
 use Rattle.qm_parse.specs.Checks.{term_uses}
-use Rattle.qm_parse.specs.Surveys.{Adds}
+use Rattle.qm_parse.specs.SurveySteps.{Adds}
 use Rattle.qm_parse.proofs.survey.Survey.terms.Given as goal
 
 abbrev pub invariant-loop-term : goal.invariant-loop-term

@@ -1,7 +1,7 @@
 use Rattle.std.proofs.Common.{rules, ◌≡◌, ◌∷◌, subst, to_z, of_z}
 use mir.Syntax.{w64}
-use Rattle.qm_search.specs.Choices.{goal_beyond}
-use Rattle.qm_search.specs.Outcomes.{Refutes}
+use Rattle.qm_search.specs.ChoiceSteps.{goal_beyond}
+use Rattle.qm_search.specs.OutcomeSteps.{Refutes}
 use Rattle.qm_trees.specs.declared.refutation.Refute.{Over}
 use Rattle.qm_search.proofs.ChoiceLaws.{over_refutes, choice_reached}
 use Rattle.qm_search.proofs.choices.Choices.outcome.Goals as goal

@@ -1,8 +1,8 @@
 use Rattle.std.proofs.Common.{rules, ◌≡◌, ◌∷◌, [], ◌++◌, subst, ◌+◌, slice_set}
 use Rattle.std.proofs.lemmas.Int.{to_z-of_z}
 use mir.Syntax.{w64}
-use Rattle.qm_trees.specs.Ranges.{single}
-use Rattle.qm_search.specs.Outcomes.{IsOutcome}
+use Rattle.qm_model.specs.Ranges.{single}
+use Rattle.qm_search.specs.OutcomeSteps.{IsOutcome}
 use Rattle.qm_search.proofs.ChoiceLaws.{lost_choice, reached_choice}
 use Rattle.qm_search.proofs.choices.Choices.with.Goals as goal
 

@@ -1,0 +1,47 @@
+/// What is asked about a game.
+#[derive(Clone, Copy, Debug, PartialEq, Eq)]
+pub enum Question {
+    Run,
+    Tableau,
+    Rows,
+    Point,
+    Propagate,
+    Combination,
+    Empty,
+    Legal,
+    Solve,
+}
+
+impl Question {
+    pub fn read(word: &str) -> Option<Question> {
+        match word {
+            "run" => Some(Question::Run),
+            "tableau" => Some(Question::Tableau),
+            "rows" => Some(Question::Rows),
+            "point" => Some(Question::Point),
+            "propagate" => Some(Question::Propagate),
+            "combination" => Some(Question::Combination),
+            "empty" => Some(Question::Empty),
+            "legal" => Some(Question::Legal),
+            "solve" => Some(Question::Solve),
+            _ => None,
+        }
+    }
+
+    // What stands between the game with its box and what is asked of them alone.
+    fn mark(self) -> &'static str {
+        match self {
+            Question::Tableau => " after ",
+            Question::Point => " at ",
+            Question::Combination => " close",
+            Question::Empty => " by ",
+            Question::Legal => " depth ",
+            _ => " of ",
+        }
+    }
+
+    /// The words of the game and its box, and those behind them.
+    pub fn parts<'a>(self, words: &'a str) -> (&'a str, &'a str) {
+        words.split_once(self.mark()).unwrap_or((words, ""))
+    }
+}

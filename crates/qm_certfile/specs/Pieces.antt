@@ -1,8 +1,0 @@
--- The text of a line, piece by piece.
-use Rattle.std.specs.Prelude.{ℕ, List, [], ◌∷◌, ◌++◌}
-use Rattle.qm_certfile.specs.Lines.{Word}
-
--- the words, each behind a space
-abbrev pub spaced : List Word → List ℕ
-spaced [] = []
-spaced (word ∷ words) = 32 ∷ word ++ spaced words

@@ -1,0 +1,14 @@
+-- Steps of the search: parts of one value each.
+use Rattle.std.specs.Prelude.{◌≡◌, ℤ, pos, ◌+ℤ◌, ◌≤ℤ◌, ◌<ℤ◌, List, [], ◌∷◌}
+use Rattle.qm_model.specs.declared.range.Range.{Range}
+use Rattle.qm_model.specs.Ranges.{single}
+
+-- the ranges of the values from `low` up to before `next`, in order
+abbrev pub AreSingles : ℤ → ℤ → List Range → Type 0
+AreSingles low next [] = low ≡ next
+AreSingles low next (r ∷ rs) = (r ≡ single low) × AreSingles (low +ℤ pos 1) next rs
+
+-- the number behind the range's values, where they are counted from its low end on
+pub record IsBehind (r : Range) (next : ℤ) : Type 0 where
+  pub above : r.high <ℤ next
+  pub near : r.low <ℤ next → next ≤ℤ (r.high +ℤ pos 1)

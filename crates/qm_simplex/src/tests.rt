@@ -1,7 +1,0 @@
-mod asserts;
-mod bests;
-mod boxes;
-mod games;
-mod leaving;
-mod pieces;
-mod voids;

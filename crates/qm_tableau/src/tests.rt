@@ -1,5 +1,0 @@
-mod choices;
-mod cuts;
-mod games;
-mod pieces;
-mod pivots;

@@ -1,8 +1,0 @@
-use Rattle.std.proofs.Common.{refl}
-use Rattle.qm_top.specs.Answers.{refused}
-use Rattle.qm_top.specs.Refusals.{unread}
-use Rattle.qm_top.proofs.solve.solve_tokens.Goals as goal
-
-pub returns-in_ok-parse_line-in-Err : goal.returns-in_ok-parse_line-in-Err
-returns-in_ok-parse_line-in-Err c =
-    refused (unread c.args.tokens.now c.in-Err.fault c.requires.tokens c.in-Err.ensures refl c.in_ok-parse_line-in-Err.ensures)
