@@ -1,0 +1,134 @@
+"""Finds the program `qyas` and runs it. What it prints is proved; what the companions make of it isn't."""
+
+from __future__ import annotations
+
+import os
+import shutil
+import subprocess
+import tempfile
+import time
+from pathlib import Path
+from typing import IO, List, Optional, TextIO
+
+from .faults import (
+    FileFault,
+    Interrupted,
+    Limit,
+    Memory,
+    NoProgram,
+    OutputFault,
+    ProgramFault,
+    TextFault,
+    Unbuilt,
+)
+
+BUILT = Path(__file__).resolve().parents[2] / "crates" / "qyas" / "out" / "qyas"
+STEP = 0.05
+
+
+def find(given: Optional[str] = None) -> str:
+    """The program's path: the given one, else that of QYAS, else `qyas` on PATH, else the one that this checkout built."""
+    for place, path in (("the argument", given), ("QYAS", os.environ.get("QYAS"))):
+        if path:
+            found = shutil.which(path)
+            if found is None:
+                raise NoProgram(f"{place} says {path}, which is no program that can be run")
+            return found
+    found = shutil.which("qyas")
+    if found is None and os.access(BUILT, os.X_OK):
+        found = str(BUILT)
+    if found is None:
+        raise NoProgram("qyas isn't found: build it by `rt run` in crates/qyas, or set QYAS to its path")
+    return found
+
+
+def solve_text(data: bytes, given: Optional[str] = None, clock: Optional[TextIO] = None) -> IO[bytes]:
+    """Solves the problem of this text: a file open at the beginning of the certificate."""
+    program = find(given)
+    with tempfile.TemporaryDirectory(prefix="qyas-") as folder:
+        path = Path(folder) / "problem.qlp"
+        path.write_bytes(data)
+        return run(program, str(path), clock)
+
+
+def run(program: str, path: str, clock: Optional[TextIO] = None) -> IO[bytes]:
+    """Runs `qyas solve PATH`: a file open at the beginning of the certificate, or the named error of its status."""
+    output = tempfile.TemporaryFile(prefix="qyas-")
+    try:
+        status = watched([program, "solve", path], output, clock)
+        output.seek(0)
+        if status != 0:
+            raise fault_of(status, output.read(2000).decode("latin-1").strip())
+        return output
+    except BaseException:
+        output.close()
+        raise
+
+
+def watched(words: List[str], output: IO[bytes], clock: Optional[TextIO]) -> int:
+    """Runs the program to its end. Where this is interrupted, the program is ended first."""
+    try:
+        child = subprocess.Popen(words, stdin=subprocess.DEVNULL, stdout=output)
+    except OSError as error:
+        raise NoProgram(f"{words[0]} can't be run: {error.strerror}") from None
+    begun = time.monotonic()
+    told = 0
+    try:
+        while True:
+            try:
+                return child.wait(timeout=STEP if told == 0 else 1)
+            except subprocess.TimeoutExpired:
+                told = tell_seconds(clock, int(time.monotonic() - begun), told)
+    except KeyboardInterrupt:
+        raise Interrupted("interrupted; the program was ended") from None
+    finally:
+        end(child)
+        if clock is not None and told > 0 and clock.isatty():
+            clock.write("\n")
+
+
+def tell_seconds(clock: Optional[TextIO], seconds: int, told: int) -> int:
+    """Says how long it has taken: each second on a terminal, else whenever the time has doubled."""
+    if clock is None or seconds <= told:
+        return told
+    if clock.isatty():
+        clock.write(f"\rsolving: {seconds} s")
+    elif seconds < 2 * told:
+        return told
+    else:
+        clock.write(f"solving: {seconds} s\n")
+    clock.flush()
+    return seconds
+
+
+def end(child: "subprocess.Popen[bytes]") -> None:
+    """Ends a program that still runs."""
+    if child.poll() is None:
+        child.terminate()
+        try:
+            child.wait(timeout=5)
+        except subprocess.TimeoutExpired:
+            child.kill()
+            child.wait()
+
+
+def fault_of(status: int, line: str) -> Exception:
+    """The named error of a status, with the line that the program printed."""
+    words = line.split(" ", 3)
+    if status == 5 and len(words) == 4 and words[0] == "text" and words[1].isdigit() and words[2].isdigit():
+        return TextFault(int(words[1]), int(words[2]), words[3])
+    if status == 3:
+        return FileFault("read problem")
+    if status == 4:
+        return OutputFault("the program couldn't write its output")
+    if status == 6:
+        return Limit(line)
+    if status == 10:
+        return Memory("memory: it ran out in the program")
+    if status == 11:
+        return Unbuilt("unbuilt: the problem has continuous variables, which the program doesn't solve yet")
+    if status in (-2, -15):
+        return Interrupted("the program was interrupted")
+    if status == -9:
+        return Memory("memory: the program was killed, as it is where memory runs out")
+    return ProgramFault(f"the program ended with status {status}: {line}")
