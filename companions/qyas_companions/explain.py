@@ -18,7 +18,7 @@ class Line:
     def __init__(self, indent: int) -> None:
         self.indent = indent
         self.text = ""
-        self.last = ""
+        self.last: Optional[str] = None
 
     def add(self, lead: str, words: str) -> None:
         """Adds words behind a lead, as `if` or `set`; the lead is said once for neighbours that share it."""
