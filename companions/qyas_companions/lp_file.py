@@ -74,12 +74,17 @@ def line_tokens(text: str, line: int) -> List[Token]:
 
 
 def heading_of(line: str) -> Tuple[str, str]:
-    """The section that a line begins, and what stands behind its heading; no section where it begins none."""
+    """The word of a heading at the beginning of a line, and what stands behind it; no word where there is none."""
     found = HEADING.match(line)
     if found is None:
         return "", line
     at = int(str(found.lastgroup)[1:])
     return HEADINGS[at][0], line[found.end() :]
+
+
+def is_name(heading: str, rest: str) -> bool:
+    """Whether the word of a heading behind the rows' one is a variable's name, by what follows it."""
+    return rest.lstrip()[:1] in ("<", ">", "=") or (heading != "bounds" and rest.lstrip()[:1] in ("+", "-"))
 
 
 class Sections:
@@ -92,12 +97,15 @@ class Sections:
         now = ""
         for number_of_line, line in enumerate(text.split("\n"), 1):
             self.last_line = number_of_line
-            heading, rest = heading_of(line.split("\\", 1)[0])
-            if heading == "end":
-                return
-            if heading:
-                now = self.begin(heading, number_of_line)
-            tokens = line_tokens(rest, number_of_line)
+            line = line.split("\\", 1)[0]
+            heading, rest = heading_of(line)
+            if heading and self.begins(heading, rest, number_of_line):
+                if heading == "end":
+                    return
+                now = "objective" if heading in ("max", "min") else heading
+                self.tokens.setdefault(now, [])
+                line = rest
+            tokens = line_tokens(line, number_of_line)
             if tokens and not now:
                 raise Unconvertible(number_of_line, "Maximize or Minimize is due")
             if tokens and now in REFUSED:
@@ -105,21 +113,17 @@ class Sections:
             self.tokens.setdefault(now, []).extend(tokens)
         raise Unconvertible(self.last_line, "the file has no End")
 
-    def begin(self, heading: str, line: int) -> str:
-        """Begins a section: the objective comes first, then the rows, then all others."""
+    def begins(self, heading: str, rest: str, line: int) -> bool:
+        """Whether a heading begins a section here: the objective comes first, then the rows, then all others."""
         if heading in ("max", "min"):
-            if self.sense:
-                raise Unconvertible(line, "a second objective")
-            self.sense = heading
-            return "objective"
+            is_first = not self.sense
+            self.sense = self.sense or heading
+            return is_first
         if not self.sense:
             raise Unconvertible(line, "Maximize or Minimize is due")
-        if heading == "rows" and "rows" in self.tokens:
-            raise Unconvertible(line, "a second Subject To")
-        if heading != "rows" and "rows" not in self.tokens:
-            raise Unconvertible(line, "Subject To is due")
-        self.tokens.setdefault(heading, [])
-        return heading
+        if heading == "rows":
+            return "rows" not in self.tokens
+        return "rows" in self.tokens and not is_name(heading, rest)
 
 
 class Cursor:

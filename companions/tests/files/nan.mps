@@ -1,0 +1,13 @@
+* A bound that is no number.
+NAME
+ROWS
+ N obj
+ G c
+COLUMNS
+ m 'MARKER' 'INTORG'
+ x obj 1 c 1
+RHS
+ r c 1
+BOUNDS
+ UP n x nan
+ENDATA
