@@ -1,0 +1,2 @@
+autocmd BufNewFile,BufRead *.qlp setfiletype qlp
+autocmd BufNewFile,BufRead *.cert setfiletype qyascert
