@@ -286,7 +286,11 @@ class TreeReader:
             raise self.lines.refuse(f"{value} is outside {low}..{high}, the values of {self.game.variables[at].name}")
 
     def closing(self, words: List[str]) -> Node:
-        """A line of rows with their multipliers."""
+        """A line of rows with their multipliers; a line that came before in such a tree is the same node."""
+        key = ("close", self.mode, *words)
+        return self.shared[key] if key in self.shared else self.share(key, self.new_closing(words))
+
+    def new_closing(self, words: List[str]) -> Close:
         entries: List[Tuple[str, int, Fraction]] = []
         bounds = len(words) > 1 and words[1] == "o" and self.mode == "refutation"
         for word in words[2 if bounds else 1 :]:
@@ -300,7 +304,7 @@ class TreeReader:
             if entries and (kind, number) <= entries[-1][:2]:
                 raise self.lines.refuse("the rows don't stand in their order")
             entries.append((kind, number, fraction(found[3], self.lines.number)))
-        return self.share(("close", bounds, *entries), Close(bounds, tuple(entries)))
+        return Close(bounds, tuple(entries))
 
     def push(self, kind: str, at: int) -> Frame:
         """Begins a frame, which keeps the place to come back to and the range of the variable."""

@@ -149,7 +149,10 @@ def equivalent_options(parser: argparse.ArgumentParser) -> None:
 
 COMMANDS: Dict[str, Command] = {
     "solve": Command(
-        "solves a problem and explains its policy", "plan solve examples/crew-after.qlp --save crew.cert", solve_options, run_solve
+        "solves a problem and explains its policy",
+        "plan solve examples/crew-after.qlp --save crew.cert",
+        solve_options,
+        run_solve,
     ),
     "explain": Command(
         "tells a policy or a refutation in words",

@@ -9,7 +9,7 @@ from fractions import Fraction
 from pathlib import Path
 from typing import Deque, Dict, List, Optional, Tuple
 
-from .certificate import Answer, Certificate, Choose, Close, Illegal, Leaf, Node, Over, Part, Pick, Split
+from .certificate import Answer, Certificate, Choose, Illegal, Leaf, Node, Over, Part, Pick, Split
 from .explain import UNCHECKED, head, sums_words
 from .faults import FileFault, NoGraphviz, WrongWords
 from .game import Game

@@ -23,7 +23,6 @@ from .faults import (
 )
 
 BUILT = Path(__file__).resolve().parents[2] / "crates" / "qyas" / "out" / "qyas"
-STEP = 0.05
 
 
 def find(given: Optional[str] = None) -> str:
@@ -76,7 +75,7 @@ def watched(words: List[str], output: IO[bytes], clock: Optional[TextIO]) -> int
     try:
         while True:
             try:
-                return child.wait(timeout=STEP if told == 0 else 1)
+                return child.wait(timeout=1)
             except subprocess.TimeoutExpired:
                 told = tell_seconds(clock, int(time.monotonic() - begun), told)
     except KeyboardInterrupt:

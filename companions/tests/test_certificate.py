@@ -147,7 +147,7 @@ def mutated(chance: random.Random, data: bytes) -> bytes:
     else:
         words = lines[at].split(b" ")
         place = chance.randrange(len(words))
-        words[place] = chance.choice([b"0", b"1", b"2", b"-1", b"01", b"", b"o", b"r1=1", b"u1=1/2", b"9" * 50, b"\xff", b"range"])
+        words[place] = chance.choice([b"0", b"1", b"2", b"-1", b"01", b"", b"o", b"r1=1", b"u1=1/2", b"9" * 50, b"\xff"])
         lines[at] = b" ".join(words)
     return b"\n".join(lines)
 

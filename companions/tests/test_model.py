@@ -4,7 +4,7 @@ import random
 import unittest
 from fractions import Fraction
 
-import support
+import support  # noqa: F401
 from qyas_companions import Program, binary, continuous, solve, text, total, whole
 from qyas_companions.faults import (
     Duplicate,

@@ -48,7 +48,8 @@ class ReadmeTest(unittest.TestCase):
 
     def test_files_that_documents_name_are_there(self) -> None:
         for document in (support.TOP / name for name in ("README.md", "docs/COMPANIONS.md", "docs/PROOFS.md")):
-            for name in re.findall(r"\b((?:docs|examples|companions|editors)/[A-Za-z0-9_./-]*[A-Za-z0-9_])", document.read_text()):
+            named = r"\b((?:docs|examples|companions|editors)/[A-Za-z0-9_./-]*[A-Za-z0-9_])"
+            for name in re.findall(named, document.read_text()):
                 if not name.endswith("/NAME.qlp") and "NAME" not in name:
                     self.assertTrue((support.TOP / name).exists(), (document.name, name))
 
