@@ -123,6 +123,8 @@ class Sections:
             raise Unconvertible(line, "Maximize or Minimize is due")
         if heading == "rows":
             return "rows" not in self.tokens
+        if heading == "end" and "rows" not in self.tokens and not rest.strip():
+            raise Unconvertible(line, "Subject To is due")
         return "rows" in self.tokens and not is_name(heading, rest)
 
 
@@ -259,6 +261,8 @@ class Reader:
             if not name:
                 raise Unconvertible(cursor.line, f"{cursor.what} has a constant on the left")
             row.terms.append((name, value))
+            if left is not None and self.is_row_end(cursor):
+                raise Unconvertible(cursor.line, f"{cursor.what} has its number on the left alone")
         relation = RELATIONS[cursor.take("relation", "a relation").text]
         if left is not None and (relation == "=" or left[0] != TURNED[relation]):
             raise Unconvertible(cursor.line, f"{cursor.what} has two relations that aren't a range")
@@ -285,9 +289,14 @@ class Reader:
             raise Unconvertible(cursor.now().line, f"{cursor.what} has {what}")
         return cursor.number("a number")
 
+    @staticmethod
+    def is_row_end(cursor: Cursor) -> bool:
+        """Whether the section ends here, or the next row's label stands here."""
+        return cursor.kind() == "end" or (cursor.kind() == "name" and cursor.kind(1) == "colon")
+
     def row_ends(self, cursor: Cursor) -> None:
         """Behind the number, nothing of the same line goes on with the row."""
-        if cursor.kind() == "end" or (cursor.kind() == "name" and cursor.kind(1) == "colon"):
+        if self.is_row_end(cursor):
             return
         if cursor.kind() in ("square", "arrow") or cursor.now().line == cursor.line:
             raise cursor.fault("the end of the row")

@@ -57,7 +57,8 @@ class Reader:
             line = line.rstrip("\r")
             if line.startswith("*") or not line.strip():
                 continue
-            if line[0] not in " \t":
+            is_sense = self.section == "OBJSENSE" and line.split()[0].upper() in SENSES
+            if line[0] not in " \t" and not is_sense:
                 self.begin(line.split())
                 if self.section == "ENDATA":
                     return self.finished()

@@ -1,5 +1,6 @@
 """LP and MPS files, each odd feature once: their answers by the program and by other solvers, or their faults."""
 
+import random
 import re
 import subprocess
 import unittest
@@ -8,8 +9,8 @@ from pathlib import Path
 from typing import Dict, List, Optional, Tuple
 
 import support
-from qyas_companions import convert, lp_file, quantifiers, solve, text
-from qyas_companions.faults import Unbuilt, Unconvertible
+from qyas_companions import convert, lp_file, mps_file, quantifiers, solve, text
+from qyas_companions.faults import Fault, Unbuilt, Unconvertible
 
 # For each file its value, and the other solvers that read it the same way.
 VALUES: Dict[str, Tuple[Optional[Fraction], List[str]]] = {
@@ -78,6 +79,25 @@ def second_opinion(words: str, path: Path) -> Fraction:
     found = re.search(r"(?:Objective: .* = |objective value )(-?[0-9.e+]+)", told)
     assert found is not None, (words, path, told)
     return Fraction(found[1])
+
+
+def mutated(chance: random.Random, data: bytes) -> bytes:
+    """A file with a word changed, left out or moved, or a byte changed."""
+    words = data.replace(b"\n", b" \n ").split(b" ")
+    at, other = chance.randrange(len(words)), chance.randrange(len(words))
+    kind = chance.randrange(5)
+    if kind == 0:
+        del words[at]
+    elif kind == 1:
+        words[at] = words[other]
+    elif kind == 2:
+        words.insert(at, words[other])
+    elif kind == 3:
+        words[at] = chance.choice([b"1e400", b"-", b"<=", b"inf", b"[", b"\xff", b"end", b"3", b"->", b"$", b"RHS", b":", b"free"])
+    else:
+        place = chance.randrange(len(data))
+        return data[:place] + bytes([chance.randrange(256)]) + data[place + 1 :]
+    return b" ".join(words)
 
 
 class ConvertTest(unittest.TestCase):
@@ -180,6 +200,42 @@ class ConvertTest(unittest.TestCase):
         ):
             with self.assertRaisesRegex(Unconvertible, words):
                 with_quantifiers(name, lines)
+
+    def test_lines_that_can_be_read_in_two_ways_are_refused(self) -> None:
+        for rows, line, words in (
+            ("3 <= x", 4, "row #1 has its number on the left alone"),
+            ("3 <= x\n -1 <= y <= 2", 5, "row #1 has a constant on the left"),
+            ("x <= 3 y", 4, "row #1: the end of the row is due, not 'y'"),
+            ("x <= 3 + 1", 4, "row #1: the end of the row is due, not '+'"),
+            ("x 2 y <= 3", 4, "row #1: a sign or a relation is due, not '2'"),
+        ):
+            with self.assertRaises(Unconvertible, msg=rows) as caught:
+                lp_file.read(f"Max\n x + y\nST\n {rows}\nEnd\n")
+            self.assertEqual((caught.exception.line, caught.exception.words), (line, words))
+        with self.assertRaisesRegex(Unconvertible, "line 3: Subject To is due"):
+            lp_file.read("Max\n x + y\nEnd\n")
+
+    def test_mutated_files_are_refused_or_read(self) -> None:
+        chance = random.Random(5)
+        files = [path for path in support.FILES.iterdir() if path.suffix in (".lp", ".mps")]
+        read = 0
+        with support.room() as folder:
+            for _ in range(600):
+                source = chance.choice(files)
+                path = Path(folder) / source.name
+                path.write_bytes(mutated(chance, source.read_bytes()))
+                try:
+                    made = convert.convert(str(path), str(support.FILES / "network.quant") if chance.random() < 0.1 else None)
+                except Fault:
+                    continue
+                read += 1
+                again = text.parse(made.program.text())
+                self.assertEqual(again.described(), made.program.described())
+        self.assertGreater(read, 50)
+
+    def test_a_sense_at_the_beginning_of_its_line(self) -> None:
+        linear = mps_file.read("NAME\nOBJSENSE\nMAX\nROWS\n N o\nCOLUMNS\n x o 1\nENDATA\n", False)
+        self.assertTrue(linear.is_maximized)
 
     def test_a_bound_of_a_heading_word_is_a_bound(self) -> None:
         linear = lp_file.read("Max\n 2 st + end\nST\n c: st + end <= 3\n end + st >= 0\nBounds\n end <= 1\n st <= 9\nEnd\n")
