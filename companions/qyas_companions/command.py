@@ -11,6 +11,7 @@ from typing import Callable, Dict, Iterable, List, NamedTuple, Optional
 
 from . import convert, draw, equivalent, follow, solution, text
 from .convert import read_file
+from .explain import UNCHECKED
 from .faults import Fault, FileFault
 from .game import Game
 from .model import Program
@@ -70,6 +71,8 @@ def run_draw(words: Words) -> None:
 
 def run_follow(words: Words) -> None:
     found = solved(words)
+    if found.is_given:
+        warn(UNCHECKED)
     moves: Iterable[str] = words.moves or (line.rstrip("\r\n") for line in sys.stdin)
     tell_all(follow.follow(found.game, found.certificate, moves, not words.moves))
 

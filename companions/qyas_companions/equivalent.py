@@ -18,47 +18,63 @@ LONGEST_NAME = 40
 TERMS_A_LINE = 8
 
 
+class PlaySearch:
+    """Goes through the values of the universal variables, over prefixes for which no uncertainty row is dead."""
+
+    def __init__(self, game: Game, most: int) -> None:
+        self.game = game
+        self.most = most
+        self.box = list(game.box)
+        self.path: List[int] = []
+        self.waiting = [self.values()]
+        self.found: List[Tuple[int, ...]] = []
+        self.looked = 0
+
+    def values(self) -> Iterator[int]:
+        """The values that the next universal variable may take; none where all are set."""
+        if len(self.path) == len(self.game.universals):
+            return iter(())
+        low, high = self.game.box[self.game.universals[len(self.path)]]
+        return iter(range(low, high + 1))
+
+    def run(self) -> List[Tuple[int, ...]]:
+        while self.waiting:
+            value = next(self.waiting[-1], None)
+            if value is None:
+                self.leave()
+            else:
+                self.enter(value)
+        return self.found
+
+    def enter(self, value: int) -> None:
+        """Sets the next variable, and goes on where no uncertainty row is dead."""
+        self.looked += 1
+        if self.looked > MOST_PREFIXES:
+            raise TooMany(f"more than {MOST_PREFIXES} prefixes of plays")
+        at = self.game.universals[len(self.path)]
+        self.box[at] = (value, value)
+        if any(row.is_dead(self.box) for row in self.game.uncertainty):
+            self.box[at] = self.game.box[at]
+        else:
+            self.path.append(value)
+            self.waiting.append(self.values())
+
+    def leave(self) -> None:
+        """Keeps the play where all variables are set, and frees the last one."""
+        if len(self.path) == len(self.game.universals):
+            if len(self.found) == self.most:
+                raise TooMany(f"more than {self.most} legal plays")
+            self.found.append(tuple(self.path))
+        self.waiting.pop()
+        if self.path:
+            self.path.pop()
+            at = self.game.universals[len(self.path)]
+            self.box[at] = self.game.box[at]
+
+
 def legal_plays(game: Game, most: int = MOST_PLAYS) -> List[Tuple[int, ...]]:
     """All universal plays, each as the values of the universal variables in their order."""
-    plays: List[Tuple[int, ...]] = []
-    box = list(game.box)
-    looked = 0
-    path: List[int] = []
-    waiting: List[Iterator[int]] = [values_at(game, 0)]
-    while waiting:
-        value = next(waiting[-1], None)
-        depth = len(waiting) - 1
-        if depth == len(game.universals):
-            plays.append(tuple(path))
-            if len(plays) > most:
-                raise TooMany(f"more than {most} legal plays")
-            value = None
-        if value is None:
-            waiting.pop()
-            if path:
-                at = game.universals[len(path) - 1]
-                box[at] = game.box[at]
-                path.pop()
-            continue
-        looked += 1
-        if looked > MOST_PREFIXES:
-            raise TooMany(f"more than {MOST_PREFIXES} prefixes of plays")
-        at = game.universals[depth]
-        box[at] = (value, value)
-        if any(row.is_dead(box) for row in game.uncertainty):
-            box[at] = game.box[at]
-            continue
-        path.append(value)
-        waiting.append(values_at(game, depth + 1))
-    return plays
-
-
-def values_at(game: Game, number: int) -> Iterator[int]:
-    """The values of the universal variable with this number; none where there is none."""
-    if number == len(game.universals):
-        return iter(())
-    low, high = game.box[game.universals[number]]
-    return iter(range(low, high + 1))
+    return PlaySearch(game, most).run()
 
 
 class Copies:
