@@ -204,7 +204,7 @@ def worst_line(game: Game, policy: Node) -> str:
     play = worst_play(game, policy)
     if play is None:
         return "Worst play: not told, as none that is legal was found at the ends of the ranges."
-    return f"Worst play: {moves_words(game, play)}; {verb(game)} {game.value(play)}"
+    return f"Worst play: {moves_words(game, play) or 'no moves'}; {verb(game)} {game.value(play)}"
 
 
 def moves_words(game: Game, play: Sequence[int]) -> str:

@@ -62,8 +62,14 @@ def closing_words(game: Game, close: Close, box: Sequence[Tuple[int, int]]) -> s
         because = f", by {words}{place}" if words else ""
         return f"the objective is {side} {game.bound(close.entries, box)}{because}"
     if not words:
-        return "a variable has no value"
+        return no_value_words(game)
     return f"{words}{',' if len(close.entries) == 1 else ', together,'} can't hold{place}"
+
+
+def no_value_words(game: Game) -> str:
+    """Which variable has no value, where no row is needed to close."""
+    empty = next((v.name for v, (low, high) in zip(game.variables, game.box) if low > high), "a variable")
+    return f"{empty} has no value within its bounds"
 
 
 def illegal_words(game: Game, illegal: Illegal) -> str:
@@ -82,7 +88,7 @@ def illegal_words(game: Game, illegal: Illegal) -> str:
             stack.extend(part.below for part in reversed(node.parts))
     found = list(closings.values())
     if not found:
-        return "a universal variable has no value"
+        return no_value_words(game)
     if len(found) == 1:
         return closing_words(game, found[0], ())
     entries = sorted({(kind, number, Fraction(1)) for close in found for kind, number, _ in close.entries})
