@@ -51,12 +51,22 @@ class FileFault(Fault):
     """A file that is missing, or can't be read or written."""
 
 
+class ReadFault(FileFault):
+    """The program couldn't open or read the problem."""
+
+    status = 3
+
+
 class NoProgram(Fault):
     """The program `qyas` wasn't found."""
 
 
 class ProgramFault(Fault):
-    """The program ended otherwise than it says it does."""
+    """The program ended otherwise than it says it does, with this status."""
+
+    def __init__(self, words: str, status: int = 1) -> None:
+        super().__init__(words)
+        self.status = status if status > 0 else 1
 
 
 class OutputFault(Fault):

@@ -11,13 +11,13 @@ from pathlib import Path
 from typing import IO, List, Optional, TextIO
 
 from .faults import (
-    FileFault,
     Interrupted,
     Limit,
     Memory,
     NoProgram,
     OutputFault,
     ProgramFault,
+    ReadFault,
     TextFault,
     Unbuilt,
 )
@@ -117,7 +117,7 @@ def fault_of(status: int, line: str) -> Exception:
     if status == 5 and len(words) == 4 and words[0] == "text" and words[1].isdigit() and words[2].isdigit():
         return TextFault(int(words[1]), int(words[2]), words[3])
     if status == 3:
-        return FileFault("read problem")
+        return ReadFault("read problem")
     if status == 4:
         return OutputFault("the program couldn't write its output")
     if status == 6:
@@ -130,4 +130,4 @@ def fault_of(status: int, line: str) -> Exception:
         return Interrupted("the program was interrupted")
     if status == -9:
         return Memory("memory: the program was killed, as it is where memory runs out")
-    return ProgramFault(f"the program ended with status {status}: {line}")
+    return ProgramFault(f"the program ended with status {status}: {line}", status)

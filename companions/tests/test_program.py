@@ -13,7 +13,7 @@ import support
 from qyas_companions import faults, program
 
 STATUSES = {
-    "3": (faults.FileFault, "read problem"),
+    "3": (faults.ReadFault, "read problem"),
     "4": (faults.OutputFault, "the program couldn't write its output"),
     "6": (faults.Limit, "limit variables 1001"),
     "10": (faults.Memory, "memory: it ran out in the program"),
@@ -31,7 +31,7 @@ class ProgramTest(unittest.TestCase):
                 fake = support.fake_program(folder, [*words, f"exit {status}"])
                 with self.assertRaises(kind) as caught:
                     program.solve_text(b"", fake)
-                self.assertEqual(str(caught.exception), line)
+                self.assertEqual((str(caught.exception), caught.exception.status), (line, int(status)))
             fake = support.fake_program(folder, ["echo 'text 3 14 expected line end'", "exit 5"])
             with self.assertRaises(faults.TextFault) as told:
                 program.solve_text(b"", fake)
