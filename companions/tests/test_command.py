@@ -1,34 +1,40 @@
 """The command line: what it prints, its statuses, and that it never shows a traceback."""
 
+import io
 import os
+import signal
 import subprocess
-import sys
 import unittest
 from pathlib import Path
 from typing import Tuple
+from unittest import mock
 
 import support
+from qyas_companions import command
 
 CREW = str(support.example("crew-after"))
 COMMANDS = ("solve", "explain", "draw", "follow", "convert", "equivalent")
 
 
 def plan(*words: str, given: str = "", **environment: str) -> Tuple[int, str, str]:
-    """The status, the output and the errors of `plan`."""
-    done = subprocess.run(
-        [sys.executable, "-B", support.PLAN, *words],
-        input=given.encode(),
-        stdout=subprocess.PIPE,
-        stderr=subprocess.PIPE,
-        env={**os.environ, **environment},
-        timeout=60,
-        check=False,
-    )
-    assert b"Traceback" not in done.stderr, done.stderr
-    return done.returncode, done.stdout.decode(), done.stderr.decode()
+    """The status, the output and the errors of `plan`, run within this process."""
+    out, told = (io.TextIOWrapper(io.BytesIO(), write_through=True) for _ in range(2))
+    before = signal.getsignal(signal.SIGTERM)
+    with mock.patch.dict(os.environ, environment), mock.patch("sys.stdin", io.StringIO(given)):
+        with mock.patch("sys.stdout", out), mock.patch("sys.stderr", told):
+            status = command.main(list(words))
+    signal.signal(signal.SIGTERM, before)
+    return status, out.buffer.getvalue().decode(), told.buffer.getvalue().decode()  # type: ignore[attr-defined]
 
 
 class CommandTest(unittest.TestCase):
+    def test_it_runs_in_place(self) -> None:
+        for words, status in (((CREW,), 0), ((CREW + "-not",), 1), ((), 2)):
+            done = subprocess.run([support.PLAN, "solve", *words], stdout=subprocess.PIPE, stderr=subprocess.PIPE, check=False)
+            self.assertEqual(done.returncode, status)
+            self.assertEqual(bool(done.stdout), status == 0)
+            self.assertNotIn(b"Traceback", done.stderr)
+
     def test_help_has_an_example(self) -> None:
         self.assertEqual(plan("--help")[0], 0)
         for name in COMMANDS:
