@@ -5,6 +5,7 @@ from __future__ import annotations
 import re
 from dataclasses import dataclass
 from fractions import Fraction
+from functools import lru_cache
 from typing import Dict, Iterable, Iterator, List, Optional, Tuple, Union
 
 from .faults import WrongCertificate
@@ -16,14 +17,14 @@ ENTRY = re.compile(r"([ru])([1-9][0-9]*)=([1-9][0-9]*(?:/[1-9][0-9]*)?)")
 LONGEST_WORD = 4000
 
 
-@dataclass(frozen=True, eq=False)
+@dataclass(eq=False)
 class Leaf:
     """All is set: every row holds, and the objective is at least the value."""
 
     __slots__ = ()
 
 
-@dataclass(frozen=True, eq=False)
+@dataclass(eq=False)
 class Choose:
     """An existential variable takes a value."""
 
@@ -32,7 +33,7 @@ class Choose:
     below: "Node"
 
 
-@dataclass(frozen=True, eq=False)
+@dataclass(eq=False)
 class Part:
     """The values from one to another, and what stands below them."""
 
@@ -42,7 +43,7 @@ class Part:
     below: "Node"
 
 
-@dataclass(frozen=True, eq=False)
+@dataclass(eq=False)
 class Answer:
     """A universal variable: each part is answered, or is illegal."""
 
@@ -50,7 +51,7 @@ class Answer:
     parts: Tuple[Part, ...]
 
 
-@dataclass(frozen=True, eq=False)
+@dataclass(eq=False)
 class Illegal:
     """No universal play has its values here: the tree below shows it."""
 
@@ -58,7 +59,7 @@ class Illegal:
     below: "Node"
 
 
-@dataclass(frozen=True, eq=False)
+@dataclass(eq=False)
 class Over:
     """Each part of the next variable's values is refuted."""
 
@@ -66,7 +67,7 @@ class Over:
     parts: Tuple[Part, ...]
 
 
-@dataclass(frozen=True, eq=False)
+@dataclass(eq=False)
 class Pick:
     """The universal player sets a value, and can go on with the completion."""
 
@@ -76,7 +77,7 @@ class Pick:
     below: "Node"
 
 
-@dataclass(frozen=True, eq=False)
+@dataclass(eq=False)
 class Split:
     """The values of a universal variable, counted from 0, part by part, in a tree below `illegal`."""
 
@@ -85,7 +86,7 @@ class Split:
     parts: Tuple[Part, ...]
 
 
-@dataclass(frozen=True, eq=False)
+@dataclass(eq=False)
 class Close:
     """Rows, each by kind, number and multiplier, that can't hold together; or that bound the objective."""
 
@@ -97,7 +98,7 @@ class Close:
 Node = Union[Leaf, Choose, Answer, Illegal, Over, Pick, Split, Close]
 
 
-@dataclass(frozen=True, eq=False)
+@dataclass(eq=False)
 class Certificate:
     """How the game ends, and the trees that show it. The value is the one in the problem's own sense."""
 
@@ -109,11 +110,18 @@ class Certificate:
     emptiness: Optional[Illegal]
 
 
+@lru_cache(maxsize=1 << 16)
+def spelt_whole(word: str) -> Optional[int]:
+    """The whole number that a word spells rightly."""
+    return int(word) if len(word) <= LONGEST_WORD and WHOLE.fullmatch(word) else None
+
+
 def whole(word: str, line: int) -> int:
     """A whole number, rightly spelt."""
-    if WHOLE.fullmatch(word) is None or len(word) > LONGEST_WORD:
+    value = spelt_whole(word)
+    if value is None:
         raise WrongCertificate(line, f"a whole number is due, not {word[:60]!r}")
-    return int(word)
+    return value
 
 
 def fraction(word: str, line: int) -> Fraction:
@@ -346,7 +354,7 @@ class TreeReader:
         if words[0] != "range":
             raise self.lines.refuse("`range` is due")
         self.count(words, 3)
-        low, high = (whole(word, self.lines.number) for word in words[1:])
+        low, high = whole(words[1], self.lines.number), whole(words[2], self.lines.number)
         due = frame.parts[-1].high + 1 if frame.parts else frame.outer[0]
         is_last = frame.left == 1
         if low != due or high < low or high > frame.outer[1] or is_last != (high == frame.outer[1]):
