@@ -4,7 +4,7 @@ from __future__ import annotations
 
 from fractions import Fraction
 from pathlib import Path
-from typing import Dict, List, NamedTuple, Optional, Tuple
+from typing import List, NamedTuple, Optional, Set, Tuple
 
 from . import lp_file, mps_file, quantifiers
 from .faults import Fault, FileFault, Unconvertible, WrongWords
@@ -79,9 +79,9 @@ class Conversion:
             variable = self.variable(program, self.linear.columns[name])
             program.variables[variable.name] = variable
         uncertain = self.uncertain_rows()
-        for row in self.linear.rows:
-            rows = program.uncertainty if row.called() in uncertain else program.rows
-            rows.extend(self.rows_of(row, row.called() in uncertain))
+        for number, row in enumerate(self.linear.rows):
+            rows = program.uncertainty if number in uncertain else program.rows
+            rows.extend(self.rows_of(row, number in uncertain))
         self.place_objective(program)
         program.comments = self.comments(sense, own)
         return Converted(program, self.warnings)
@@ -147,16 +147,16 @@ class Conversion:
         low, high = column.low.value, column.high.value
         return (low if low is not None else Fraction(0)), (high if high is not None else Fraction(1))
 
-    def uncertain_rows(self) -> Dict[str, int]:
-        """The rows that bind the universal player, by the names that they are called."""
-        named = {row.name for row in self.linear.rows}
-        known = {row.called() for row in self.linear.rows if row.name is not None or row.called() not in named}
+    def uncertain_rows(self) -> Set[int]:
+        """The places of the rows that bind the universal player. A name counts before the number of a row without one."""
+        places = {row.called(): place for place, row in enumerate(self.linear.rows) if row.name is None}
+        places.update((row.name, place) for place, row in enumerate(self.linear.rows) if row.name is not None)
         for name, line in self.said.uncertain.items():
             if name in self.linear.free_rows:
                 raise Unconvertible(line, f"the free row {name} can't be uncertain", FILE)
-            if name not in known:
+            if name not in places:
                 raise Unconvertible(line, f"the row {name} isn't known", FILE)
-        return self.said.uncertain
+        return {places[name] for name in self.said.uncertain}
 
     def rows_of(self, row: LinearRow, is_uncertain: bool) -> List[Row]:
         """The one or two rows of the format that a row becomes."""

@@ -138,6 +138,20 @@ class ConvertTest(unittest.TestCase):
         self.assertEqual(len(without.warnings), 1)
         self.assertIn("row #8 has universal variables alone", without.warnings[0])
 
+    def test_both_rows_of_a_range_are_uncertain(self) -> None:
+        made = with_quantifiers("ranges.lp", "all x y\nuncertain band back")
+        self.assertEqual((len(made.program.rows), len(made.program.uncertainty), made.warnings), (0, 4, []))
+
+    def test_numbers_name_rows_without_names(self) -> None:
+        text_of = "Max\n x\nST\n x <= 1\n {}: x <= 2\n x <= 3\nBounds\n x <= 3\nGeneral\n x\nEnd\n"
+        for name, row, right in (("c", "#1", 1), ("c", "#3", 3), ("#1", "#1", 2)):
+            linear = lp_file.read(text_of.format(name))
+            said = quantifiers.read(f"all x\nuncertain {row}")
+            made = convert.Conversion(linear, said, "a.lp").make(None).program
+            self.assertEqual([r.right for r in made.uncertainty], [right], (name, row))
+        with self.assertRaisesRegex(Unconvertible, "the row #2 isn't known"):
+            convert.Conversion(lp_file.read(text_of.format("c")), quantifiers.read("uncertain #2"), "a.lp").make(None)
+
     def test_rows_are_exact(self) -> None:
         made = converted("spans.mps").program
         self.assertEqual(

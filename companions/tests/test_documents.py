@@ -31,7 +31,7 @@ class DocumentsTest(unittest.TestCase):
         self.assertIn("budget: 4 depot + 2 shock - 3 loan <= 2", said.getvalue())
         self.assertIn("Worst play: ", said.getvalue())
 
-    @unittest.skipUnless(support.has("man"), "man isn't installed")
+    @unittest.skipUnless(support.has("man") and support.has("groff"), "man isn't installed")
     def test_the_manual_page_has_no_warnings(self) -> None:
         words = ["man", "--warnings", "-E", "UTF-8", "-l", str(support.TOP / "docs" / "qyas.1")]
         done = subprocess.run(words, stdout=subprocess.PIPE, stderr=subprocess.PIPE, check=False)
