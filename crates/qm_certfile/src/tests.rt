@@ -1,33 +1,23 @@
-// Certificates of the problem "maximise x1 + 2 x3, where x1 + x2 + x3 <= 2", of three variables from 0 to 1, the second
-// of which the universal player sets. Its value is 2: choose 0, answer each value, choose 1. Nothing above 2 is reached:
-// over x1 = 0 the objective's bounds say so, and over x1 = 1 the universal player picks 1.
+// The texts of certificates; whether they pass isn't asked of a text. The first is that of "maximise x1 + 2 x3, where
+// x1 + x2 + x3 <= 2", of three variables from 0 to 1, the second of which the universal player sets.
 use super::*;
 use qm_frac::Frac;
 use qm_io::{List, Memory};
-use qm_model::{Game, Player, Problem, Range, Row, RowId, Sense, Term, Terms, Var};
+use qm_model::{Game, Problem, Range, RowId, Sense, Terms};
 use qm_trees::{Below, Combo, Empty, EmptyPart, Entry, Policy, PolicyPart, Refute, RefutePart};
 use sqlite_items::{Boxed, Items};
 use std::alloc::{AllocError, Global};
 use std::test::Fail;
 
+// A game without variables: what is written goes by the certificate, and by whether the file minimises.
 fn game(alloc: Global, sense: Sense) -> Result<Game, Memory> {
-    let mut vars = List::new(alloc);
-    vars.push(Var::binary(List::new(alloc), Player::Exists))?;
-    vars.push(Var::binary(List::new(alloc), Player::All))?;
-    vars.push(Var::binary(List::new(alloc), Player::Exists))?;
-    let mut rows = List::new(alloc);
-    rows.push(Row::of(
-        alloc,
-        &[Term::new(0, 1), Term::new(1, 1), Term::new(2, 1)],
-        2,
-    )?)?;
     Ok(Game::new(Problem {
         sense,
-        vars,
-        wholes: 3,
-        rows,
+        vars: List::new(alloc),
+        wholes: 0,
+        rows: List::new(alloc),
         urows: List::new(alloc),
-        terms: Terms::of(alloc, &[Term::new(0, 1), Term::new(2, 2)])?,
+        terms: Terms::of(alloc, &[])?,
         constant: 0,
         scale: 1,
     }))
@@ -44,12 +34,6 @@ fn choose(alloc: Global, value: i64, below: Policy) -> Result<Policy, AllocError
         value,
         below: Boxed::new(alloc, below)?,
     })
-}
-
-fn leaf(alloc: Global) -> Policy {
-    Policy::Leaf {
-        point: List::new(alloc),
-    }
 }
 
 // Chooses 0, answers each value, and chooses 1.
@@ -205,6 +189,12 @@ fn by_uncertain(alloc: Global, number: u32) -> Result<Combo, Memory> {
         by: Frac::whole(1),
     })?;
     Ok(combo)
+}
+
+fn leaf(alloc: Global) -> Policy {
+    Policy::Leaf {
+        point: List::new(alloc),
+    }
 }
 
 // Answers 0 by a leaf, and calls 1 illegal.

@@ -174,63 +174,36 @@ text_of objective rows sections = record { sense = Max; objective = objective; r
 named_or_none : (names written : List (List ℕ)) (named : List Named) → IsOptional names written false named → Both (NamedIs names) written []
 named_or_none names written named optional = subst (Both (NamedIs names) written) (optional.none refl) optional.named_is
 
+tree_is : (names : List (List ℕ)) (written : SmallWritten) (ast : Ast) → ast.sense ≡ Max → ast.uncertain ≡ [] → ast.bounds ≡ [] → ast.generals ≡ [] → ast.names ≡ names
+    → Both (TermIs names) written.objective ast.objective → Both (RowIs names) written.rows ast.rows → Both (NamedIs names) written.binaries ast.binaries
+    → Both (NamedIs names) written.exists ast.existential → Both (NamedIs names) written.universal ast.universal → Both (NamedIs names) written.order ast.order → IsTreeOf names written ast
+tree_is names written ast sense uncertain bounds generals names_are objective rows binaries existential universal order = record {
+  sense = sense;
+  objective = objective;
+  rows = rows;
+  uncertain = uncertain;
+  bounds = bounds;
+  generals = generals;
+  binaries = binaries;
+  existential = existential;
+  universal = universal;
+  order = order;
+  names_are = names_are;
+}
+
 is_tree : (names : List (List ℕ)) (written : SmallWritten) (terms : List AstTerm) (rows : List AstRow) (binaries : List Named) (e u : Bool) (exists universal order : List Named)
     → Both (TermIs names) written.objective terms → Both (RowIs names) written.rows rows → Both (NamedIs names) written.binaries binaries → IsOptional names written.exists e exists
     → IsOptional names written.universal u universal → Both (NamedIs names) written.order order
     → IsTreeOf names written (ast_of names (text_of terms rows (sections_of binaries (e, exists) (u, universal) order)))
 unfolding empty_ast
-is_tree names written terms rows binaries true true exists universal order t r b x a o = record {
-  sense = refl;
-  objective = t;
-  rows = r;
-  uncertain = refl;
-  bounds = refl;
-  generals = refl;
-  binaries = b;
-  existential = x.named_is;
-  universal = a.named_is;
-  order = o;
-  names_are = refl;
-}
-is_tree names written terms rows binaries true false exists universal order t r b x a o = record {
-  sense = refl;
-  objective = t;
-  rows = r;
-  uncertain = refl;
-  bounds = refl;
-  generals = refl;
-  binaries = b;
-  existential = x.named_is;
-  universal = named_or_none names written.universal universal a;
-  order = o;
-  names_are = refl;
-}
-is_tree names written terms rows binaries false true exists universal order t r b x a o = record {
-  sense = refl;
-  objective = t;
-  rows = r;
-  uncertain = refl;
-  bounds = refl;
-  generals = refl;
-  binaries = b;
-  existential = named_or_none names written.exists exists x;
-  universal = a.named_is;
-  order = o;
-  names_are = refl;
-}
-is_tree names written terms rows binaries false false exists universal order t r b x a o = record {
-  sense = refl;
-  objective = t;
-  rows = r;
-  uncertain = refl;
-  bounds = refl;
-  generals = refl;
-  binaries = b;
-  existential = named_or_none names written.exists exists x;
-  universal = named_or_none names written.universal universal a;
-  order = o;
-  names_are = refl;
-}
+is_tree names written terms rows binaries true true exists universal order t r b x a o =
+    tree_is names written _ refl refl refl refl refl t r b x.named_is a.named_is o
+is_tree names written terms rows binaries true false exists universal order t r b x a o =
+    tree_is names written _ refl refl refl refl refl t r b x.named_is (named_or_none names written.universal universal a) o
+is_tree names written terms rows binaries false true exists universal order t r b x a o =
+    tree_is names written _ refl refl refl refl refl t r b (named_or_none names written.exists exists x) a.named_is o
+is_tree names written terms rows binaries false false exists universal order t r b x a o =
+    tree_is names written _ refl refl refl refl refl t r b (named_or_none names written.exists exists x) (named_or_none names written.universal universal a) o
 
 -- ---- the whole text
 
