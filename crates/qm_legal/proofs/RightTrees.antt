@@ -27,7 +27,7 @@ use Rattle.qm_trees.specs.Verdicts.{answer_of}
 use Rattle.qm_trees.proofs.EmptyLines.{right_of_fine}
 use Rattle.qm_trees.proofs.Lines.{fine_of_answer}
 use Rattle.qm_trees.proofs.WholeValues.{dead_row_value}
-use Rattle.qm_combo.proofs.EmptyTests.{at_close, closed_by_range, closed_by_value, splits}
+use Rattle.qm_combo.proofs.EmptyTests.{close_is_judged, closed_by_range, closed_by_value, splits}
 use Rattle.qm_legal.specs.Queries.{Shows}
 
 -- ---- closing
@@ -35,7 +35,7 @@ use Rattle.qm_legal.specs.Queries.{Shows}
 module _ (P : Problem) (rest : List Var) (depth : ℕ) (bx : List Range) (tree : Empty) where
   shows_close : (combo : Combination) → tree ≡ Close combo → answer_of (judge_close P bx combo) ≡ Ok true → Shows P rest depth bx tree
   shows_close combo is passes =
-      let both = right_of_fine P rest depth bx tree (fine_of_answer (judge_empty P rest depth bx tree) (sym (at_close P rest depth bx tree combo is) ∙ passes)) in
+      let both = right_of_fine P rest depth bx tree (fine_of_answer (judge_empty P rest depth bx tree) (sym (close_is_judged P rest depth bx tree combo is) ∙ passes)) in
       record { right = both.0; in_range = both.1 }
 
   -- by an empty universal range

@@ -15,7 +15,7 @@ use Rattle.qm_model.proofs.Players.{is_for_all, not_universal}
 use Rattle.qm_model.specs.Ranges.{range_at, single}
 use Rattle.qm_legal.specs.SearchSteps.{SetsNext}
 use Rattle.qm_legal.specs.Queries.{low_of, set_values}
-use Rattle.qm_search.specs.PlaceSteps.{Completes, IsSearchBox, next_value}
+use Rattle.qm_search.specs.PlaceSteps.{Completes, IsSearchBox, IsSearchPlace, next_value}
 use Rattle.qm_search.proofs.SearchBoxes.{below, range_is, within_bounds}
 
 -- ---- the universal values of the first variables
@@ -140,23 +140,22 @@ pub record BeginsInRange (depth : ℕ) (bx : List Range) (completion : List ℤ)
   pub some : 0 < length completion
   pub within : IsBetween (range_at bx depth).low (range_at bx depth).high (next_value completion)
 
-module _ (P : Problem) where
-  pub begins_here : (rest : List Var) (depth : ℕ) (bx : List Range) → rest ≡ drop depth (whole_vars P) → IsSearchBox P depth bx → SetsNext Universal rest → (completion : List ℤ) → Completes P depth bx completion
-      → BeginsInRange depth bx completion
-  begins_here [] depth bx from_depth here player completion completes = absurd player
-  begins_here (x ∷ later) depth bx from_depth here player completion completes =
-      let first = begins_of P x later depth bx from_depth here player completion completes in
-      record { some = first.some; within = rw (range_is P x later depth bx from_depth here) first.within }
+pub begins_here : {P : Problem} {depth : ℕ} {bx : List Range} {completion : List ℤ} (rest : List Var) → rest ≡ drop depth (whole_vars P) → SetsNext Universal rest → IsSearchPlace P depth bx completion
+    → BeginsInRange depth bx completion
+begins_here [] from_depth player place = absurd player
+begins_here {P} {depth} {bx} {completion} (x ∷ later) from_depth player place =
+    let first = begins_of P x later depth bx from_depth place.box player completion place.completes in
+    record { some = first.some; within = rw (range_is P x later depth bx from_depth place.box) first.within }
 
-  -- a value of an existential variable leaves a completion one
-  pub completes_choice : (rest : List Var) (depth : ℕ) (bx : List Range) → rest ≡ drop depth (whole_vars P) → IsSearchBox P depth bx → SetsNext Exists rest → (completion : List ℤ) → Completes P depth bx completion
-      → (v : ℤ) → Completes P (depth + 1) (set bx depth (single v)) completion
-  completes_choice [] depth bx from_depth here player completion completes v = absurd player
-  completes_choice (x ∷ later) depth bx from_depth here player completion completes v = completes_existential P x later depth bx from_depth here v completion player completes
+-- a value of an existential variable leaves a completion one
+pub completes_choice : {P : Problem} {depth : ℕ} {bx : List Range} {completion : List ℤ} (rest : List Var) → rest ≡ drop depth (whole_vars P) → SetsNext Exists rest → IsSearchPlace P depth bx completion
+    → (v : ℤ) → Completes P (depth + 1) (set bx depth (single v)) completion
+completes_choice [] from_depth player place v = absurd player
+completes_choice {P} {depth} {bx} {completion} (x ∷ later) from_depth player place v = completes_existential P x later depth bx from_depth place.box v completion player place.completes
 
-  -- a value of a universal variable that goes on as the completion does
-  pub completes_answer : (rest : List Var) (depth : ℕ) (bx : List Range) → rest ≡ drop depth (whole_vars P) → IsSearchBox P depth bx → SetsNext Universal rest → (completion : List ℤ) → Completes P depth bx completion
-      → (v : ℤ) → IsBetween (range_at bx depth).low (range_at bx depth).high v → ((P.urows ≡ []) ⊎ (v ≡ next_value completion)) → Completes P (depth + 1) (set bx depth (single v)) (drop 1 completion)
-  completes_answer [] depth bx from_depth here player completion completes v within known = absurd player
-  completes_answer (x ∷ later) depth bx from_depth here player completion completes v within known =
-      completes_known P x later depth bx from_depth here player completion completes v (within_bounds P x later depth bx from_depth here v within) known
+-- a value of a universal variable that goes on as the completion does
+pub completes_answer : {P : Problem} {depth : ℕ} {bx : List Range} {completion : List ℤ} (rest : List Var) → rest ≡ drop depth (whole_vars P) → SetsNext Universal rest → IsSearchPlace P depth bx completion
+    → (v : ℤ) → IsBetween (range_at bx depth).low (range_at bx depth).high v → ((P.urows ≡ []) ⊎ (v ≡ next_value completion)) → Completes P (depth + 1) (set bx depth (single v)) (drop 1 completion)
+completes_answer [] from_depth player place v within known = absurd player
+completes_answer {P} {depth} {bx} {completion} (x ∷ later) from_depth player place v within known =
+    completes_known P x later depth bx from_depth place.box player completion place.completes v (within_bounds P x later depth bx from_depth place.box v within) known

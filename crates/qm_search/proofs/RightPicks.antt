@@ -133,8 +133,8 @@ module _ (P : Problem) (x : Var) (later : List Var) (depth : ℕ) (bx : List Ran
       }
 
 -- a value of the next variable, and what completes it, are a right pick
-pub right_pick : (P : Problem) (rest : List Var) (depth : ℕ) (bx : List Range) → rest ≡ drop depth (whole_vars P) → IsSearchBox P depth bx → SetsNext Universal rest
+pub right_pick : {P : Problem} {depth : ℕ} {bx : List Range} (rest : List Var) → rest ≡ drop depth (whole_vars P) → SetsNext Universal rest → IsSearchBox P depth bx
     → (v : ℤ) → IsBetween (range_at bx depth).low (range_at bx depth).high v → (completion : List ℤ) → Completes P (depth + 1) (set bx depth (single v)) completion
     → IsRightPick P (drop 1 rest) depth bx v completion
-right_pick P [] depth bx from_depth here player v within completion completes = absurd player
-right_pick P (x ∷ later) depth bx from_depth here player v within completion completes = right_pick_of P x later depth bx from_depth here player v within completion completes
+right_pick [] from_depth player here v within completion completes = absurd player
+right_pick {P} {depth} {bx} (x ∷ later) from_depth player here v within completion completes = right_pick_of P x later depth bx from_depth here player v within completion completes

@@ -45,34 +45,21 @@ visit-returns-clause-same t c =
 
 pub answer_to-is_known-requires : goal.answer_to-is_known-requires
 answer_to-is_known-requires t c =
-    let P = c.args.here.game.now in
-    let rest = c.args.here.rest.now in
-    let depth = c.args.here.depth in
-    let bx = c.args.bx.now in
-    let here = c.requires.place.box in
-    (begins_here P rest depth bx c.args.here.from_depth here c.requires.player c.args.completion.now c.requires.place.completes).some
+    (begins_here c.args.here.rest.now c.args.here.from_depth c.requires.player c.requires.place).some
 
 pub answer_to-later_values-later-requires : goal.answer_to-later_values-later-requires
 answer_to-later_values-later-requires t c =
-    let P = c.args.here.game.now in
-    let rest = c.args.here.rest.now in
-    let depth = c.args.here.depth in
-    let bx = c.args.bx.now in
-    let here = c.requires.place.box in
-    (begins_here P rest depth bx c.args.here.from_depth here c.requires.player c.args.completion.now c.requires.place.completes).some
+    (begins_here c.args.here.rest.now c.args.here.from_depth c.requires.player c.requires.place).some
 
 pub answer_to-visit-requires : goal.answer_to-visit-requires
 answer_to-visit-requires t c =
-    let P = c.args.here.game.now in
     let rest = c.args.here.rest.now in
-    let depth = c.args.here.depth in
-    let bx = c.args.bx.now in
     let here = c.requires.place.box in
     let v = c.args.value in
     let some = some_next Universal rest c.requires.player in
     let same = to_z-of_z w64 v c.ranges.value in
     let known = (rw same at c.is_known.ensures).0 c.if-is_known.true in
-    let completes = completes_answer P rest depth bx c.args.here.from_depth here c.requires.player c.args.completion.now c.requires.place.completes v c.requires.within known in
+    let completes = completes_answer c.args.here.rest.now c.args.here.from_depth c.requires.player c.requires.place v c.requires.within known in
     (omega (arith, some), rw (same, c.later_values-later.ensures) (here, (some, (c.requires.within, completes))))
 
 pub answer_to-returns-then-is_known-clause-answer : goal.answer_to-returns-then-is_known-clause-answer
@@ -81,13 +68,12 @@ answer_to-returns-then-is_known-clause-answer t c =
     let rest = c.args.here.rest.now in
     let depth = c.args.here.depth in
     let bx = c.args.bx.now in
-    let here = c.requires.place.box in
     let v = c.args.value in
     let same = to_z-of_z w64 v c.ranges.value in
     let known = (rw same at c.is_known.ensures).0 c.if-is_known.true in
-    let completes = completes_answer P rest depth bx c.args.here.from_depth here c.requires.player c.args.completion.now c.requires.place.completes v c.requires.within known in
+    let completes = completes_answer c.args.here.rest.now c.args.here.from_depth c.requires.player c.requires.place v c.requires.within known in
     let right : IsRightPick P (drop 1 rest) depth bx v c.in_ok-list_of.field-0 =
-    rw (c.in_ok-list_of.ensures, c.later_values-later.ensures) (right_pick P rest depth bx c.args.here.from_depth here c.requires.player v c.requires.within (drop 1 c.args.completion.now) completes) in
+    rw (c.in_ok-list_of.ensures, c.later_values-later.ensures) (right_pick c.args.here.rest.now c.args.here.from_depth c.requires.player c.requires.place.box v c.requires.within (drop 1 c.args.completion.now) completes) in
     let outcome = rw same at c.in_ok-outcome.ensures.outcome in
     (rw same at c.legal_answer.ensures) P rest depth bx (next_value c.args.completion.now) c.requires.player right outcome
 
@@ -97,11 +83,10 @@ answer_to-returns-in_ok-outcome-in-Completion-clause-answer t c =
     let rest = c.args.here.rest.now in
     let depth = c.args.here.depth in
     let bx = c.args.bx.now in
-    let here = c.requires.place.box in
     let v = c.args.value in
     let same = to_z-of_z w64 v c.ranges.value in
     let completes = subst (IsRightLegality P (depth + 1) (set bx depth (single v))) c.in-Completion.is (rw same at c.in_ok-tree.ensures.legality) in
-    let right = right_pick P rest depth bx c.args.here.from_depth here c.requires.player v c.requires.within c.in-Completion.values completes in
+    let right = right_pick c.args.here.rest.now c.args.here.from_depth c.requires.player c.requires.place.box v c.requires.within c.in-Completion.values completes in
     let outcome = rw (same, c.legality.ensures.same) at c.in_ok-outcome-in-Completion.ensures.outcome in
     (rw same at c.legal_answer-in-Completion.ensures) P rest depth bx (next_value c.args.completion.now) c.requires.player right outcome
 
@@ -123,7 +108,6 @@ best_choice-loop-choice-init t c =
 
 pub best_choice-visit-requires : goal.best_choice-visit-requires
 best_choice-visit-requires t c =
-    let P = c.args.here.game.now in
     let rest = c.args.here.rest.now in
     let depth = c.args.here.depth in
     let bx = c.args.bx.now in
@@ -134,7 +118,7 @@ best_choice-visit-requires t c =
     let high : c.range-covered.result.high ≡ (range_at bx depth).high = ap (λ (r : Range). r.high) is in
     let some = some_next Exists rest c.requires.player in
     let most : v ≤ℤ (range_at bx depth).high = omega (arith, ints, high) in
-    let completes = completes_choice P rest depth bx c.args.here.from_depth here c.requires.player c.args.completion.now c.requires.place.completes v in
+    let completes = completes_choice c.args.here.rest.now c.args.here.from_depth c.requires.player c.requires.place v in
     (omega (arith, some), rw before.same (here, (some, ((before.from, most), completes))))
 
 pub best_choice-loop-choice-preserved : goal.best_choice-loop-choice-preserved
@@ -190,8 +174,7 @@ worst_answer-loop-value-init t c =
     let rest = c.args.here.rest.now in
     let depth = c.args.here.depth in
     let bx = c.args.bx.now in
-    let here = c.requires.place.box in
-    let begins = begins_here P rest depth bx c.args.here.from_depth here c.requires.player c.args.completion.now c.requires.place.completes in
+    let begins = begins_here c.args.here.rest.now c.args.here.from_depth c.requires.player c.requires.place in
     let is = c.range-covered.ensures in
     let low : SFits w64 c.range-covered.result.low = search rules in
     rw (to_z-of_z w64 c.range-covered.result.low low, is)
@@ -232,9 +215,8 @@ worst_answer-outcome-requires t c =
     let rest = c.args.here.rest.now in
     let depth = c.args.here.depth in
     let bx = c.args.bx.now in
-    let here = c.requires.place.box in
     let first = next_value c.args.completion.now in
-    let begins = begins_here P rest depth bx c.args.here.from_depth here c.requires.player c.args.completion.now c.requires.place.completes in
+    let begins = begins_here c.args.here.rest.now c.args.here.from_depth c.requires.player c.requires.place in
     let v = to_z w64 c.loop-value.value-bits in
     let before = c.loop-value.invariant in
     let is = c.range-covered.ensures in
@@ -260,7 +242,6 @@ worst_answer-returns-clause-outcome t c =
     let rest = c.args.here.rest.now in
     let depth = c.args.here.depth in
     let bx = c.args.bx.now in
-    let here = c.requires.place.box in
     let first = next_value c.args.completion.now in
     let v = to_z w64 c.loop-value.value-bits in
     let before = c.loop-value.invariant in
