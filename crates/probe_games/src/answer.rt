@@ -26,26 +26,44 @@ pub fn answer(alloc: Global, line: &str) -> Result<String, AllocError> {
     }
 }
 
-// The first fault of the text, where it states no game.
+// The line that refuses the text, where it states no game.
 fn answer_of_words(alloc: Global, question: Question, words: &str) -> Result<String, AllocError> {
-    let (head, rest) = question.parts(words);
-    let (head, cuts) = head.split_once(" with ").unwrap_or((head, ""));
-    let (hex, ranges) = head.split_once(' ').unwrap_or((head, ""));
-    match game_of(alloc, hex)? {
-        Stated::Game(game) => answer_of_game(alloc, question, &game, ranges, cuts, rest),
+    match game_of(alloc, written(alloc, words)?.as_str())? {
+        Stated::Game(game) => answer_of_game(alloc, question, &game, behind(words)),
         Stated::Nothing(line) => Ok(line),
     }
+}
+
+// The text, with its quotes where it has some.
+fn written(alloc: Global, words: &str) -> Result<String, AllocError> {
+    match words.split_once("\" ") {
+        Some((opened, _)) => format!(in alloc; "{opened}\""),
+        None => {
+            if words.starts_with("\"") {
+                return String::from_str(alloc, words);
+            }
+            let (hex, _) = words.split_once(' ').unwrap_or((words, ""));
+            String::from_str(alloc, hex)
+        }
+    }
+}
+
+// The words behind the text.
+fn behind(words: &str) -> &str {
+    let end = if words.starts_with("\"") { "\" " } else { " " };
+    let (_, rest) = words.split_once(end).unwrap_or(("", ""));
+    rest
 }
 
 fn answer_of_game(
     alloc: Global,
     question: Question,
     game: &Game,
-    ranges: &str,
-    cuts: &str,
-    rest: &str,
+    words: &str,
 ) -> Result<String, AllocError> {
-    match box_of(alloc, game, ranges) {
+    let (head, rest) = question.parts(words);
+    let (ranges, cuts) = head.split_once("with ").unwrap_or((head, ""));
+    match box_of(alloc, game, ranges.trim_end()) {
         Ok(bx) => match cuts_of(alloc, game, cuts) {
             Ok(cuts) => answer_over(alloc, question, game, cuts.as_slice(), bx, rest),
             Err(why) => String::from_str(alloc, why.line()),

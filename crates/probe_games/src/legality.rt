@@ -1,11 +1,11 @@
 ghost use Rattle.std.specs.Prelude.{◌≡◌, IsTrue};
 ghost use Rattle.qm_model.specs.Boxes.{IsBox, bounds_of};
 ghost use Rattle.qm_model.specs.declared.variable.Player.TheVariants.{All as Universal};
-ghost use Rattle.qm_legal.specs.Queries.{AreFree, IsQuery};
-ghost use Rattle.qm_legal.specs.Search.{AreSet};
+ghost use Rattle.qm_legal.specs.Queries.{AreFree, AreSet, IsQuery};
 
 use crate::empties::test_line;
-use crate::words::{joined_lines, number_words};
+use crate::words::number_words;
+use probe_words::one_line;
 use qm_certfile::{Certificate, write};
 use qm_combo::test_empty;
 use qm_game::{Bx, Game, Player, Range, Var};
@@ -44,7 +44,7 @@ fn illegal_line(alloc: Global, game: &Game, bx: Bx, tree: Empty) -> Result<Strin
     let test = test_line(alloc, test_empty(game, &mut bx, &tree))?;
     match write(alloc, game, &Certificate::Empty(tree)) {
         Ok(text) => {
-            let lines = joined_lines(alloc, text.as_slice())?;
+            let lines = one_line(alloc, text.as_slice())?;
             let tree = between(lines.as_str(), "illegal / ", " / end");
             format!(in alloc; "illegal {test}: {tree}")
         }

@@ -1,12 +1,14 @@
-//! Answers each line of standard input about the game of a text whose bytes are written in hexadecimal, over its whole
-//! box, or over the box of the ranges behind the text, such as `0..1 -3..2`:
-//! - `run`: how its relaxation ends; `tableau`: the tableau that a run begins with, or that some pivots lead to; behind
-//!   both, `with` and cuts, such as `1x1+1x3<=1`;
-//! - `rows`: what each row comes to, and which is dead; `point`: whether each holds at values; `propagate`: the box that
-//!   the rows narrow it to;
-//! - `combination`: what a combination comes to, written as in certificates, or whether it closes a goal; `empty`: whether
-//!   a tree passes, its lines joined by ` / `;
-//! - `legal`: whether the values that are set can be completed to a play; `solve`: the certificate, its lines joined.
+//! Answers each line of standard input about the game of a text, which is written between quotes or in hexadecimal
+//! (`bytes_of` in `probe_words`): over its whole box, or over the box of the ranges behind the text, one for each
+//! variable, as `run "MAX x ST ORDER x END" 0..1`.
+//! `run` tells how its relaxation ends; `tableau` the tableau that a run begins with, or that pivots lead to, as
+//! `after 5/2`; with the cuts that stand behind `with`, as `1x1+1x3<=1`.
+//! `rows` tells what each row comes to and which is dead; `point` whether each holds `at` values; `propagate` the box that
+//! the rows narrow it to, and the reasons.
+//! `combination` tells what a combination comes to that is written as in certificates, as `close o r1=1/2`, or whether it
+//! closes a goal, as `for any` or `for above 3`; `empty` whether a tree passes, given `by` its lines, joined by ` / `.
+//! `legal` tells whether the values that are set before a `depth` can be completed to a play; `solve` the certificate,
+//! its lines joined so.
 #![tactic(auto)]
 
 mod answer;

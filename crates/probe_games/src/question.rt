@@ -28,20 +28,21 @@ impl Question {
         }
     }
 
-    // What stands between the game with its box and what is asked of them alone.
+    // What stands between the box with the cuts and what is asked of them alone.
     fn mark(self) -> &'static str {
         match self {
-            Question::Tableau => " after ",
-            Question::Point => " at ",
-            Question::Combination => " close",
-            Question::Empty => " by ",
-            Question::Legal => " depth ",
-            _ => " of ",
+            Question::Tableau => "after ",
+            Question::Point => "at ",
+            Question::Combination => "close",
+            Question::Empty => "by ",
+            Question::Legal => "depth ",
+            _ => "of ",
         }
     }
 
-    /// The words of the game and its box, and those behind them.
+    /// The words of the box and the cuts, and those behind them.
     pub fn parts<'a>(self, words: &'a str) -> (&'a str, &'a str) {
-        words.split_once(self.mark()).unwrap_or((words, ""))
+        let (head, rest) = words.split_once(self.mark()).unwrap_or((words, ""));
+        (head.trim_end(), rest)
     }
 }

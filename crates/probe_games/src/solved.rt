@@ -1,10 +1,10 @@
-use crate::words::joined_lines;
+use probe_words::one_line;
 use qm_certfile::write;
 use qm_game::Game;
 use qm_search::solve;
 use std::alloc::{AllocError, Global};
 
-/// The lines of the certificate of a game of whole variables alone, joined.
+/// The certificate of a game of whole variables alone, in one line.
 pub fn solve_line(alloc: Global, game: &Game) -> Result<String, AllocError> {
     let problem = game.problem();
     if problem.wholes as usize != problem.vars.len() {
@@ -12,7 +12,7 @@ pub fn solve_line(alloc: Global, game: &Game) -> Result<String, AllocError> {
     }
     match solve(alloc, game) {
         Ok(certificate) => match write(alloc, game, &certificate) {
-            Ok(text) => joined_lines(alloc, text.as_slice()),
+            Ok(text) => one_line(alloc, text.as_slice()),
             Err(_) => String::from_str(alloc, "memory"),
         },
         Err(_) => String::from_str(alloc, "memory"),

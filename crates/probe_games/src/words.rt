@@ -53,16 +53,3 @@ pub fn range_word(alloc: Global, range: Range) -> Result<String, AllocError> {
     let high = range.high;
     format!(in alloc; "{low}..{high}")
 }
-
-/// The lines of a text, joined.
-pub fn joined_lines(alloc: Global, text: &[u8]) -> Result<String, AllocError> {
-    let text = String::from_utf8_lossy(alloc, text)?;
-    let mut out = String::new(alloc);
-    for line in text.as_str().lines() {
-        if !out.is_empty() {
-            out.push_str(" / ")?;
-        }
-        out.push_str(line)?;
-    }
-    Ok(out)
-}

@@ -1,5 +1,5 @@
 use Rattle.std.proofs.Common.{drop}
-use Rattle.qm_legal.specs.Search.{AreSet}
+use Rattle.qm_legal.specs.Queries.{AreSet}
 use Rattle.probe_games.proofs.legality.are_set.Given as goal
 
 abbrev pub invariant-loop-at : goal.invariant-loop-at
