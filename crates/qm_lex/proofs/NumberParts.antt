@@ -6,7 +6,7 @@ use Rattle.std.specs.List.{list_all}
 use Rattle.std.proofs.lemmas.Bool.Decides.{nat_tests}
 use Rattle.std.proofs.lemmas.List.{append-nil}
 use Rattle.std.proofs.lemmas.Bool.{and_parts}
-use Rattle.qm_text.specs.Digits.{is_numeral, value_of}
+use Rattle.qm_text.specs.Digits.{is_numeral, numeral_value}
 use Rattle.qm_text.specs.Decimals.{SpellsDigits, SpellsExponent, SpellsPower}
 use Rattle.qm_text.proofs.Spellings.{one_of_two}
 use Rattle.qm_lex.specs.Bytes.{begins_exponent, is_sign}
@@ -56,12 +56,12 @@ from_numeral word is = sym (numeral_is word) ∙ is
 -- ---- from the tests to the spelling
 
 to_signed : (byte : ℕ) (word : List ℕ) → (byte ≡ 43) ⊎ (byte ≡ 45) → are_some_digits word ≡ true → (n : ℤ) × SpellsPower (byte ∷ word) n
-to_signed byte word (inl e) is = (pos (value_of word), (word, to_numeral word is, inr (inl (ap (λ (b : ℕ). b ∷ word) e), refl)))
-to_signed byte word (inr e) is = (neg_ℤ (pos (value_of word)), (word, to_numeral word is, inl (ap (λ (b : ℕ). b ∷ word) e, refl)))
+to_signed byte word (inl e) is = (pos (numeral_value word), (word, to_numeral word is, inr (inl (ap (λ (b : ℕ). b ∷ word) e), refl)))
+to_signed byte word (inr e) is = (neg_ℤ (pos (numeral_value word)), (word, to_numeral word is, inl (ap (λ (b : ℕ). b ∷ word) e, refl)))
 
 power_step : (byte : ℕ) (word : List ℕ) (t : Bool) → is_sign byte ≡ t → cond t (are_some_digits word) (are_some_digits (byte ∷ word)) ≡ true → (n : ℤ) × SpellsPower (byte ∷ word) n
 power_step byte word true e is = to_signed byte word (one_of_two byte 43 45 e) is
-power_step byte word false e is = (pos (value_of (byte ∷ word)), (byte ∷ word, to_numeral (byte ∷ word) is, inr (inr refl, refl)))
+power_step byte word false e is = (pos (numeral_value (byte ∷ word)), (byte ∷ word, to_numeral (byte ∷ word) is, inr (inr refl, refl)))
 
 to_power : (word : List ℕ) → are_signed_digits word ≡ true → (n : ℤ) × SpellsPower word n
 to_power [] is = absurd cc

@@ -22,7 +22,7 @@ use Rattle.qm_simplex.specs.declared.run.Finished.{Finished}
 use Rattle.qm_simplex.specs.Ends.{IsRightEnd, most_pivots, pivots_of}
 use Rattle.qm_simplex.specs.Runs.{Leads, Pivot}
 use Rattle.qm_simplex.specs.RunSteps.{RunsTo, Tells}
-use Rattle.qm_simplex.specs.Stops.{Answer, Follows, IsRunFrom, Located, after_choice, after_pivot, after_pivots, best_at, stop_at, void_at}
+use Rattle.qm_simplex.specs.Stops.{Answer, AnswersRun, IsRunFrom, Located, after_choice, after_pivot, after_pivots, best_at, stop_at, void_at}
 use Rattle.qm_simplex.proofs.Endings.{best_end, void_end}
 use Rattle.qm_simplex.proofs.GoodRuns.{run_good}
 use Rattle.qm_simplex.proofs.ShortAnswers.{short_answer}
@@ -65,7 +65,7 @@ right_end P cuts bx t end sound full good run = right_run P cuts bx sound full t
 
 -- what is told where the first tableau's pivots have led
 pub run_told : (P : Problem) (cuts : List Row) (bx : List Range) (last : Table) (ps : List Pivot) (r : Result LpEnd LpFault) → Leads (first_table P cuts bx) ps last
-    → Tells (stop_at P cuts bx ps last) r → Follows P cuts bx r
+    → Tells (stop_at P cuts bx ps last) r → AnswersRun P cuts bx r
 run_told P cuts bx last ps (Ok end) leads told = record { pivots = ps; last = last; leads = leads; stops = told }
 run_told P cuts bx last ps (Err (fault.Leaves leaves)) leads told = record { pivots = ps; last = last; leads = leads; stops = told }
 run_told P cuts bx last ps (Err fault.Memory) leads told = tt
@@ -75,16 +75,16 @@ pub good_last : (P : Problem) (cuts : List Row) (bx : List Range) (last : Table)
 good_last P cuts bx last run h = run_good P cuts bx (first_table P cuts bx) last run.pivots (first_good P cuts bx) h.0
 
 -- a run that leaves is told
-pub leaving_told : (P : Problem) (cuts : List Row) (bx : List Range) (last : Table) (e : LpFault) → RunsTo (first_table P cuts bx) (Err e) last → Follows P cuts bx (Err e)
+pub leaving_told : (P : Problem) (cuts : List Row) (bx : List Range) (last : Table) (e : LpFault) → RunsTo (first_table P cuts bx) (Err e) last → AnswersRun P cuts bx (Err e)
 leaving_told P cuts bx last (fault.Leaves leaves) h = h P cuts bx
 leaving_told P cuts bx last fault.Memory h = tt
 
 pub right_told : (P : Problem) (cuts : List Row) (bx : List Range) (r : Result LpEnd LpFault) → IsSound P
-    → (Any IsEmptyRange bx → ⊥) → Follows P cuts bx r → IfOk r (IsRightEnd P cuts bx)
+    → (Any IsEmptyRange bx → ⊥) → AnswersRun P cuts bx r → IfOk r (IsRightEnd P cuts bx)
 right_told P cuts bx (Ok end) sound full told = right_run P cuts bx sound full (first_table P cuts bx) end (first_good P cuts bx) told
 right_told P cuts bx (Err e) sound full told = tt
 
-pub short_told : (P : Problem) (cuts : List Row) (bx : List Range) (r : Result LpEnd LpFault) → Follows P cuts bx r
+pub short_told : (P : Problem) (cuts : List Row) (bx : List Range) (r : Result LpEnd LpFault) → AnswersRun P cuts bx r
     → IfOk r (λ end. pivots_of end < most_pivots P cuts bx)
 short_told P cuts bx (Ok end) told = short_answer P cuts bx (first_table P cuts bx) (Ok end) (first_good P cuts bx) told
 short_told P cuts bx (Err e) told = tt

@@ -93,7 +93,7 @@ abbrev pub IsRun : Problem → List Row → List Range → Answer → Type 0
 IsRun P cuts bx answer = IsRunFrom P cuts bx (first_table P cuts bx) answer
 
 -- memory is wanting, or this is the run
-abbrev pub Follows : Problem → List Row → List Range → Result LpEnd LpFault → Type 0
-Follows P cuts bx (Ok end) = IsRun P cuts bx (Ok end)
-Follows P cuts bx (Err (fault.Leaves leaves)) = IsRun P cuts bx (Err leaves)
-Follows P cuts bx (Err fault.Memory) = Unit {0}
+abbrev pub AnswersRun : Problem → List Row → List Range → Result LpEnd LpFault → Type 0
+AnswersRun P cuts bx (Ok end) = IsRun P cuts bx (Ok end)
+AnswersRun P cuts bx (Err (fault.Leaves leaves)) = IsRun P cuts bx (Err leaves)
+AnswersRun P cuts bx (Err fault.Memory) = Unit {0}

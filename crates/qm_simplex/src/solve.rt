@@ -5,7 +5,7 @@ ghost use Rattle.qm_tableau.specs.Good.{IsGood};
 ghost use Rattle.qm_tableau.specs.Rule.{chosen};
 ghost use Rattle.qm_simplex.specs.Ends.{IsRightEnd, most_pivots, pivots_of};
 ghost use Rattle.qm_simplex.specs.RunSteps.{Gives, Tells, choice_at_end};
-ghost use Rattle.qm_simplex.specs.Stops.{Follows, best_at, stop_at};
+ghost use Rattle.qm_simplex.specs.Stops.{AnswersRun, best_at, stop_at};
 
 use crate::combination::closing_combination;
 use crate::point::{point, value};
@@ -89,7 +89,7 @@ pub fn solve_lp(alloc: Global, game: &Game, cuts: &[Row], bx: &Bx) -> Result<LpE
     requires few_cuts { length cuts.now < 2 ^ 29 }
     requires bx { IsBox game.now.vars bx.now }
     requires full { Any IsEmptyRange bx.now → ⊥ }
-    ensures run { Follows game.now cuts.now bx.now result }
+    ensures run { AnswersRun game.now cuts.now bx.now result }
     ensures right { IfOk result (IsRightEnd game.now cuts.now bx.now) }
     ensures pivots { IfOk result (λ end. pivots_of end < most_pivots game.now cuts.now bx.now) }
 {

@@ -9,7 +9,7 @@ use Rattle.std.proofs.lemmas.Bool.{and_parts}
 use Rattle.qm_math.specs.Fraction.{whole}
 use Rattle.qm_frac.specs.Lowest.{lowest}
 use Rattle.qm_text.specs.Decimals.{Decimal, SpellsDecimal, Stays, is_zero_digit, with_tens, without_first_zeros, without_last_zeros}
-use Rattle.qm_text.specs.Digits.{are_digits, is_numeral, value_of as text_value}
+use Rattle.qm_text.specs.Digits.{are_digits, is_numeral, numeral_value as text_value}
 use Rattle.qm_text.proofs.Powers.{few_below, small_power, whole_lowest}
 use Rattle.qm_text.proofs.Spellings.{numeral_from}
 use Rattle.qm_text.proofs.Written.{value_below}

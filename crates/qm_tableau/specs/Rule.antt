@@ -53,7 +53,7 @@ abbrev pub chosen : Table → Placed Choice
 chosen t = choice_at t.rows (leaving_row 1 (drop 1 t.rows))
 
 -- the row of a choice is there, and in the column of a pivot, from column 1 on, it has a positive entry
-abbrev pub IsInside : List (List Fraction) → ℕ → Choice → Type 0
-IsInside rows width choice.Done = Unit {0}
-IsInside rows width (choice.VoidRow r) = r < length rows
-IsInside rows width (choice.Pivot r c) = (r < length rows) × (1 ≤ c) × (c < width) × (pos 0 <ℤ (entry_at rows r c).num)
+abbrev pub IsInTable : List (List Fraction) → ℕ → Choice → Type 0
+IsInTable rows width choice.Done = Unit {0}
+IsInTable rows width (choice.VoidRow r) = r < length rows
+IsInTable rows width (choice.Pivot r c) = (r < length rows) × (1 ≤ c) × (c < width) × (pos 0 <ℤ (entry_at rows r c).num)

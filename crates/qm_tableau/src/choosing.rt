@@ -2,7 +2,7 @@ ghost use Rattle.std.specs.Prelude.{◌≡◌, ◌<◌, ◌≤◌, ◌^◌, ◌�
 ghost use Rattle.qm_frac.specs.Checked.{divided};
 ghost use Rattle.qm_tableau.specs.Tables.{entry_of, entry_at, row_at};
 ghost use Rattle.qm_tableau.specs.Leaving.{placed};
-ghost use Rattle.qm_tableau.specs.Rule.{choice_at, choice_of, chosen, entering_column, greater_column, is_greater, leaving_row, IsInside};
+ghost use Rattle.qm_tableau.specs.Rule.{choice_at, choice_of, chosen, entering_column, greater_column, is_greater, leaving_row, IsInTable};
 
 use crate::grid::Grid;
 use crate::{Choice, LeavesAt};
@@ -142,7 +142,7 @@ pub fn choose_among(numbers: &Grid) -> Result<Choice, LeavesAt>
     requires few_columns { numbers.now.width < 2 ^ 32 }
     requires width { 0 < numbers.now.width }
     ensures choice { result ≡ choice_at numbers.now.rows (leaving_row 1 (drop 1 numbers.now.rows)) }
-    ensures inside { IfOk result (IsInside numbers.now.rows numbers.now.width) }
+    ensures inside { IfOk result (IsInTable numbers.now.rows numbers.now.width) }
 {
     match leaving_row(numbers) {
         None => Ok(Choice::Done),

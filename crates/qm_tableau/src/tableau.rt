@@ -2,7 +2,7 @@ ghost use Rattle.std.specs.Prelude.{◌≡◌, ◌<◌, ◌≤◌, ◌*◌, ◌^
 ghost use Rattle.qm_tableau.specs.Tables.{entry_at, row_at, rows_of};
 ghost use Rattle.qm_tableau.specs.Leaving.{giving};
 ghost use Rattle.qm_tableau.specs.Pivoting.{pivoted};
-ghost use Rattle.qm_tableau.specs.Rule.{IsInside, chosen};
+ghost use Rattle.qm_tableau.specs.Rule.{IsInTable, chosen};
 
 use crate::choosing::choose_among;
 use crate::grid::Grid;
@@ -105,7 +105,7 @@ impl Tableau {
     /// The next pivot by the rule. `LeavesAt` names the first operation that leaves.
     pub fn choose(&self) -> Result<Choice, LeavesAt>
         ensures choice { result ≡ chosen self.now }
-        ensures inside { IfOk result (IsInside self.now.rows (suc (length self.now.columns))) }
+        ensures inside { IfOk result (IsInTable self.now.rows (suc (length self.now.columns))) }
     {
         choose_among(&self.numbers)
     }

@@ -11,7 +11,7 @@ use Rattle.std.proofs.lemmas.Bool.{and_parts, cases_Bool}
 use Rattle.memchr.specs.Find.{IsFirstByte, is_byte, is_byte2}
 use Rattle.qm_math.proofs.Lists.{cons-first, cons-rest}
 use Rattle.qm_frac.specs.Signs.{signed}
-use Rattle.qm_text.specs.Digits.{are_digits, is_numeral, value_of}
+use Rattle.qm_text.specs.Digits.{are_digits, is_numeral, numeral_value}
 use Rattle.qm_text.specs.Decimals.{Decimal, SpellsDecimal, SpellsDigits, SpellsExponent, SpellsPower}
 use Rattle.qm_text.specs.DecimalSteps.{HasNone, IsCut, IsFrom, IsExponentCut, IsSigned}
 use Rattle.qm_text.proofs.Cuts.{point_no_digit, e_no_digit, digits_none, join_none, cut_one, none_before, from_there, is_point}
@@ -80,24 +80,24 @@ numeral_first sign (byte ∷ word) h other e =
     let same : is_ascii_digit byte ≡ false = ap is_ascii_digit e ∙ other in
     cc (first, same)
 
-pub power_some : (word digits : List ℕ) (minus : Bool) → IsSigned word minus digits → IsTrue (is_numeral digits) → SpellsPower word (signed minus (value_of digits))
-power_some word digits minus (inl p) h = (digits, h, inl (p.1, ap (λ (b : Bool). signed b (value_of digits)) p.0))
-power_some word digits minus (inr (inl p)) h = (digits, h, inr (inl p.1, ap (λ (b : Bool). signed b (value_of digits)) p.0))
-power_some word digits minus (inr (inr p)) h = (digits, h, inr (inr p.1, ap (λ (b : Bool). signed b (value_of digits)) p.0))
+pub power_some : (word digits : List ℕ) (minus : Bool) → IsSigned word minus digits → IsTrue (is_numeral digits) → SpellsPower word (signed minus (numeral_value digits))
+power_some word digits minus (inl p) h = (digits, h, inl (p.1, ap (λ (b : Bool). signed b (numeral_value digits)) p.0))
+power_some word digits minus (inr (inl p)) h = (digits, h, inr (inl p.1, ap (λ (b : Bool). signed b (numeral_value digits)) p.0))
+power_some word digits minus (inr (inr p)) h = (digits, h, inr (inr p.1, ap (λ (b : Bool). signed b (numeral_value digits)) p.0))
 
 -- the shapes of a power of ten
 abbrev Shape : List ℕ → List ℕ → ℤ → Type 0
 Shape word digits n =
-    ((word ≡ 45 ∷ digits) × (n ≡ neg_ℤ (pos (value_of digits))))
-    ⊎ (((word ≡ 43 ∷ digits) ⊎ (word ≡ digits)) × (n ≡ pos (value_of digits)))
+    ((word ≡ 45 ∷ digits) × (n ≡ neg_ℤ (pos (numeral_value digits))))
+    ⊎ (((word ≡ 43 ∷ digits) ⊎ (word ≡ digits)) × (n ≡ pos (numeral_value digits)))
 
 -- what is known of a power of ten whose sign is known
 abbrev Known : Bool → List ℕ → ℤ → Type 0
-Known minus rest n = IsTrue (is_numeral rest) × (n ≡ signed minus (value_of rest))
+Known minus rest n = IsTrue (is_numeral rest) × (n ≡ signed minus (numeral_value rest))
 
-known : (minus sign : Bool) (rest digits : List ℕ) (n : ℤ) → minus ≡ sign → digits ≡ rest → IsTrue (is_numeral digits) → n ≡ signed sign (value_of digits) → Known minus rest n
+known : (minus sign : Bool) (rest digits : List ℕ) (n : ℤ) → minus ≡ sign → digits ≡ rest → IsTrue (is_numeral digits) → n ≡ signed sign (numeral_value digits) → Known minus rest n
 known minus sign rest digits n p q h e =
-    (subst (λ (w : List ℕ). IsTrue (is_numeral w)) q h, e ∙ ap₂ (λ (b : Bool) (w : List ℕ). signed b (value_of w)) (sym p) q)
+    (subst (λ (w : List ℕ). IsTrue (is_numeral w)) q h, e ∙ ap₂ (λ (b : Bool) (w : List ℕ). signed b (numeral_value w)) (sym p) q)
 
 sign_known : (word rest digits : List ℕ) (minus : Bool) (n : ℤ) → IsSigned word minus rest → IsTrue (is_numeral digits) → Shape word digits n → Known minus rest n
 sign_known word rest digits minus n (inl p) h (inl q) = known minus true rest digits n p.0 (cons-rest 45 45 digits rest (sym q.0 ∙ p.1)) h q.1
@@ -114,7 +114,7 @@ pub power_none : (word rest : List ℕ) (minus : Bool) → IsSigned word minus r
 power_none word rest minus is never n h = never (sign_known word rest h.0 minus n is h.1 h.2).0
 
 -- a power of ten has a sign, or none
-sign_of_shape : (word digits : List ℕ) (n : ℤ) → IsTrue (is_numeral digits) → Shape word digits n → (minus : Bool) × IsSigned word minus digits × (n ≡ signed minus (value_of digits))
+sign_of_shape : (word digits : List ℕ) (n : ℤ) → IsTrue (is_numeral digits) → Shape word digits n → (minus : Bool) × IsSigned word minus digits × (n ≡ signed minus (numeral_value digits))
 sign_of_shape word digits n h (inl q) = (true, inl (refl, q.0), q.1)
 sign_of_shape word digits n h (inr (inl q, e)) = (false, inr (inl (refl, q)), e)
 sign_of_shape word digits n h (inr (inr q, e)) =
@@ -265,7 +265,7 @@ exponent_of_power {T} back word byte r value K from e h =
     (λ x known. (with_byte back word byte (value x) e is known.0, known.1))
     h
 
-pub no_exponent : (back : List ℕ) → length back ≡ 0 → SpellsExponent back (pos (value_of back)) × IsTrue (are_digits back)
-unfolding value_of
+pub no_exponent : (back : List ℕ) → length back ≡ 0 → SpellsExponent back (pos (numeral_value back)) × IsTrue (are_digits back)
+unfolding numeral_value
 no_exponent [] e = (inl (refl, refl), refl)
 no_exponent (byte ∷ back) e = absurd (omega arith)

@@ -4,7 +4,7 @@ use Rattle.std.specs.Int.{w64, w128}
 use Rattle.std.specs.Prelude.{FitsSigned, Result}
 use Rattle.qm_text.specs.declared.fault.NumberFault.{NumberFault}
 use Rattle.qm_text.specs.declared.fault.NumberFault.TheVariants as fault
-use Rattle.qm_text.specs.Digits.{are_digits, is_plain_numeral, value_of}
+use Rattle.qm_text.specs.Digits.{are_digits, is_plain_numeral, numeral_value}
 use Rattle.qm_text.proofs.Slashes.{digits_of_plain}
 use Rattle.qm_text.specs.Numbers.{SpellsNatural, SpellsWhole}
 use Rattle.qm_text.specs.Reading.{ReadsNumber}
@@ -47,15 +47,15 @@ whole_one word (negsuc m) (negsuc n) p q =
 pub natural_none : (word : List ℕ) → is_plain_numeral word ≡ false → ReadsNumber (SpellsNatural word) Small (Err fault.NotNumber)
 natural_none word e = reads_none (SpellsNatural word) Small (λ n. n) (λ v h. cc (e, h.0))
 
-pub natural_leaves : (word : List ℕ) (n : ℕ) → is_plain_numeral word ≡ true → n ≡ min (value_of word) (2 ^ 128 - 1) → 2 ^ 127 ≤ n
+pub natural_leaves : (word : List ℕ) (n : ℕ) → is_plain_numeral word ≡ true → n ≡ min (numeral_value word) (2 ^ 128 - 1) → 2 ^ 127 ≤ n
     → ReadsNumber (SpellsNatural word) Small (Err fault.Leaves)
 natural_leaves word n e capped large =
-    reads_leaves (SpellsNatural word) Small (λ n. n) (natural_one word) (value_of word) (e, refl) (λ small. omega arith)
+    reads_leaves (SpellsNatural word) Small (λ n. n) (natural_one word) (numeral_value word) (e, refl) (λ small. omega arith)
 
-pub natural_ok : (word : List ℕ) (n : ℕ) → is_plain_numeral word ≡ true → n ≡ min (value_of word) (2 ^ 128 - 1) → n < 2 ^ 127
+pub natural_ok : (word : List ℕ) (n : ℕ) → is_plain_numeral word ≡ true → n ≡ min (numeral_value word) (2 ^ 128 - 1) → n < 2 ^ 127
     → ReadsNumber (SpellsNatural word) Small (Ok n)
 natural_ok word n e capped small =
-    let exact : n ≡ value_of word = omega arith in
+    let exact : n ≡ numeral_value word = omega arith in
     reads_ok (SpellsNatural word) Small (λ n. n) (natural_one word) n (e, exact) small
 
 -- ---- numbers with a sign

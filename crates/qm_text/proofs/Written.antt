@@ -14,9 +14,9 @@ use Rattle.std.proofs.lemmas.Nat.{div-mul-add}
 use native.Mathlib.Nat.{mul-le-mul_right}
 use Rattle.qm_math.specs.Fraction.{Fraction}
 use Rattle.qm_frac.specs.Lowest.{IsFrac}
-use Rattle.qm_text.specs.Digits.{are_digits, is_plain_numeral, value_of}
+use Rattle.qm_text.specs.Digits.{are_digits, is_plain_numeral, numeral_value}
 use Rattle.qm_text.specs.Numbers.{SpellsNatural, SpellsWhole, SpellsFraction, number_word}
-use Rattle.qm_text.proofs.Values.{value_of-push}
+use Rattle.qm_text.proofs.Values.{numeral_value-push}
 use Rattle.qm_text.proofs.Slashes.{digits_of_plain}
 use Rattle.qm_text.proofs.Wholes.{fits_small}
 
@@ -26,12 +26,12 @@ use Rattle.qm_text.proofs.Wholes.{fits_small}
 record IsWriting (n : ℕ) (ds : List ℕ) : Type 0 where
   pub some : 0 < length ds
   digits : are_digits ds ≡ true
-  value : value_of ds ≡ n
+  value : numeral_value ds ≡ n
   first : 0 < n → get_or ds 0 0 ≢ 48
   zero_alone : n ≡ 0 → length ds ≡ 1
 
 one_digit : (n : ℕ) → n < 10 → IsWriting n ((48 + n) ∷ [])
-unfolding value_of
+unfolding numeral_value
 one_digit n small = record { some = omega arith; digits = grind (arith, nat_tests); value = omega arith; first = λ h e. absurd (omega arith); zero_alone = λ e. refl }
 
 first_of : (ds : List ℕ) (digit : ℕ) → 0 < length ds → get_or (ds ++ digit ∷ []) 0 0 ≡ get_or ds 0 0
@@ -43,7 +43,7 @@ more_digits n ds large w =
     let len = length-append ds ((48 + n % 10) ∷ []) in
     let digit : is_ascii_digit (48 + n % 10) ≡ true = grind (arith, nat_tests) in
     let before = w.value in
-    let pushed = value_of-push ds (48 + n % 10) in
+    let pushed = numeral_value-push ds (48 + n % 10) in
     let some = w.some in
     record {
       some = omega (arith, len);
@@ -65,8 +65,8 @@ decimal_spells n small = let w = writing n small in (plain_of n (decimal n) w, s
 
 -- ---- one numeral a number
 
-pub value_below : (ds : List ℕ) → are_digits ds ≡ true → value_of ds < 10 ^ length ds
-unfolding value_of
+pub value_below : (ds : List ℕ) → are_digits ds ≡ true → numeral_value ds < 10 ^ length ds
+unfolding numeral_value
 value_below [] all = omega arith
 value_below (d ∷ ds) all =
     let digit : d - 48 < 10 = grind (arith, nat_tests) in
@@ -85,8 +85,8 @@ weights a b p v w small less e =
     let same : a * p ≡ b * p = ap (λ n. n * p) top in
     (top, omega arith)
 
-same_length : (ds es : List ℕ) → are_digits ds ≡ true → are_digits es ≡ true → length ds ≡ length es → value_of ds ≡ value_of es → ds ≡ es
-unfolding value_of
+same_length : (ds es : List ℕ) → are_digits ds ≡ true → are_digits es ≡ true → length ds ≡ length es → numeral_value ds ≡ numeral_value es → ds ≡ es
+unfolding numeral_value
 same_length [] [] all every len e = refl
 same_length [] (x ∷ es) all every len e = absurd (omega arith)
 same_length (d ∷ ds) [] all every len e = absurd (omega arith)
@@ -95,15 +95,15 @@ same_length (d ∷ ds) (x ∷ es) all every len e =
     let digits : are_digits ds ≡ true = grind arith in
     let others : are_digits es ≡ true = grind arith in
     let below = value_below ds digits in
-    let less : value_of es < 10 ^ length ds = rw rest (value_below es others) in
-    let sums : (d - 48) * 10 ^ length ds + value_of ds ≡ (x - 48) * 10 ^ length ds + value_of es = rw (← rest) at e in
-    let parts = weights (d - 48) (x - 48) (10 ^ length ds) (value_of ds) (value_of es) below less sums in
+    let less : numeral_value es < 10 ^ length ds = rw rest (value_below es others) in
+    let sums : (d - 48) * 10 ^ length ds + numeral_value ds ≡ (x - 48) * 10 ^ length ds + numeral_value es = rw (← rest) at e in
+    let parts = weights (d - 48) (x - 48) (10 ^ length ds) (numeral_value ds) (numeral_value es) below less sums in
     let low : (48 ≤ d) × (48 ≤ x) = grind (arith, nat_tests) in
     let first : d ≡ x = omega arith in
     cc (first, same_length ds es digits others rest parts.1)
 
-first_at_least : (ds : List ℕ) → is_plain_numeral ds ≡ true → 1 < length ds → 10 ^ (length ds - 1) ≤ value_of ds
-unfolding value_of
+first_at_least : (ds : List ℕ) → is_plain_numeral ds ≡ true → 1 < length ds → 10 ^ (length ds - 1) ≤ numeral_value ds
+unfolding numeral_value
 first_at_least [] plain long = absurd (omega arith)
 first_at_least (d ∷ ds) plain long =
     let some : 1 ≤ d - 48 = grind (arith, nat_tests) in
@@ -111,7 +111,7 @@ first_at_least (d ∷ ds) plain long =
     let weight : 1 * 10 ^ length ds ≤ (d - 48) * 10 ^ length ds = mul-le-mul_right (10 ^ length ds) some in
     rw (← len) (omega arith)
 
-not_shorter : (ds es : List ℕ) → is_plain_numeral ds ≡ true → is_plain_numeral es ≡ true → value_of ds ≡ value_of es → length es ≤ length ds
+not_shorter : (ds es : List ℕ) → is_plain_numeral ds ≡ true → is_plain_numeral es ≡ true → numeral_value ds ≡ numeral_value es → length es ≤ length ds
 not_shorter ds es plain simple e = elim (cases_lt (length ds) (length es)) [
   | inl shorter ↦
       let some : 0 < length ds = grind (arith, nat_tests) in
@@ -122,7 +122,7 @@ not_shorter ds es plain simple e = elim (cases_lt (length ds) (length es)) [
   | inr at_most ↦ at_most
 ]
 
-numeral_one : (ds es : List ℕ) → is_plain_numeral ds ≡ true → is_plain_numeral es ≡ true → value_of ds ≡ value_of es → ds ≡ es
+numeral_one : (ds es : List ℕ) → is_plain_numeral ds ≡ true → is_plain_numeral es ≡ true → numeral_value ds ≡ numeral_value es → ds ≡ es
 numeral_one ds es plain simple e =
     let one = not_shorter ds es plain simple e in
     let other = not_shorter es ds simple plain (sym e) in

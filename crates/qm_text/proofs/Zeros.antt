@@ -13,10 +13,10 @@ use Rattle.std.proofs.Math.Nat.{pow-le-pow_right}
 use Rattle.std.proofs.Math.Nat.{mul-le-mul_left}
 use native.Mathlib.Nat.{mul-le-mul_right}
 use Rattle.qm_text.specs.declared.significant.Significant.{Significant}
-use Rattle.qm_text.specs.Digits.{are_digits, value_of}
+use Rattle.qm_text.specs.Digits.{are_digits, numeral_value}
 use Rattle.qm_text.specs.Decimals.{is_zero_digit, without_first_zeros, without_last_zeros}
 use Rattle.qm_text.specs.DecimalSteps.{with_digit, with_digits}
-use Rattle.qm_text.proofs.Values.{value_of-push}
+use Rattle.qm_text.proofs.Values.{numeral_value-push}
 use Rattle.qm_text.proofs.Written.{value_below}
 use Rattle.qm_text.proofs.Cuts.{first_digit, rest_digits}
 use Rattle.qm_text.proofs.Powers.{ten_some}
@@ -27,9 +27,9 @@ core_of digits = without_last_zeros (without_first_zeros digits)
 
 -- ---- one digit more
 
-first_zero_value : (digit : ℕ) (digits : List ℕ) (t : Bool) → eqb digit 48 ≡ t → value_of (without_first_zeros digits) ≡ value_of digits
-    → value_of (cond t (without_first_zeros digits) (digit ∷ digits)) ≡ value_of (digit ∷ digits)
-unfolding value_of
+first_zero_value : (digit : ℕ) (digits : List ℕ) (t : Bool) → eqb digit 48 ≡ t → numeral_value (without_first_zeros digits) ≡ numeral_value digits
+    → numeral_value (cond t (without_first_zeros digits) (digit ∷ digits)) ≡ numeral_value (digit ∷ digits)
+unfolding numeral_value
 first_zero_value digit digits true e same =
     let none : digit ≡ 48 = eqb-true digit 48 e in
     let low : digit - 48 ≡ 0 = omega arith in
@@ -37,7 +37,7 @@ first_zero_value digit digits true e same =
     same ∙ omega (arith, weight)
 first_zero_value digit digits false e same = refl
 
-pub value_without_first : (digits : List ℕ) → value_of (without_first_zeros digits) ≡ value_of digits
+pub value_without_first : (digits : List ℕ) → numeral_value (without_first_zeros digits) ≡ numeral_value digits
 value_without_first [] = refl
 value_without_first (digit ∷ digits) = first_zero_value digit digits (eqb digit 48) refl (value_without_first digits)
 
@@ -84,19 +84,19 @@ core_zero : (digits : List ℕ) → core_of (digits ++ 48 ∷ []) ≡ core_of di
 core_zero [] = refl
 core_zero (x ∷ digits) = core_step x digits (eqb x 48) (core_zero digits)
 
-core_push : (digits : List ℕ) (digit : ℕ) → eqb digit 48 ≡ false → value_of (core_of (digits ++ digit ∷ [])) ≡ value_of digits * 10 + (digit - 48)
+core_push : (digits : List ℕ) (digit : ℕ) → eqb digit 48 ≡ false → numeral_value (core_of (digits ++ digit ∷ [])) ≡ numeral_value digits * 10 + (digit - 48)
 core_push digits digit e =
     let core : core_of (digits ++ digit ∷ []) ≡ without_first_zeros digits ++ digit ∷ [] = ap without_last_zeros (first_push digits digit e) ∙ last_push (without_first_zeros digits) digit e in
-    ap value_of core ∙ value_of-push (without_first_zeros digits) digit ∙ ap (λ n. n * 10 + (digit - 48)) (value_without_first digits)
+    ap numeral_value core ∙ numeral_value-push (without_first_zeros digits) digit ∙ ap (λ n. n * 10 + (digit - 48)) (value_without_first digits)
 
 -- ---- what is kept of the digits so far
 
 pub record IsSignificant (digits : List ℕ) (s : Significant) : Type 0 where
-  pub number : s.number ≡ min (value_of (core_of digits)) (2 ^ 128 - 1)
-  pub value : value_of digits ≡ value_of (core_of digits) * 10 ^ s.zeros
+  pub number : s.number ≡ min (numeral_value (core_of digits)) (2 ^ 128 - 1)
+  pub value : numeral_value digits ≡ numeral_value (core_of digits) * 10 ^ s.zeros
 
 pub none_so_far : IsSignificant [] (record { number = 0; zeros = 0 })
-unfolding value_of
+unfolding numeral_value
 none_so_far = record { number = refl; value = refl }
 
 -- a bound passes through a product with a positive number
@@ -128,23 +128,23 @@ zero_step : (digits : List ℕ) (s : Significant) (t : Bool) → eqb s.number 0 
 zero_step digits s true e is =
     let none : s.number ≡ 0 = eqb-true s.number 0 e in
     let number = is.number in
-    let core : value_of (core_of digits) ≡ 0 = omega arith in
-    let before : value_of digits ≡ 0 = is.value ∙ ap (λ n. n * 10 ^ s.zeros) core ∙ (let z : 0 * 10 ^ s.zeros ≡ 0 = omega arith in z) in
-    let after : value_of (digits ++ 48 ∷ []) ≡ 0 = value_of-push digits 48 ∙ (let z : value_of digits * 10 + (48 - 48) ≡ 0 = omega arith in z) in
-    let same : value_of (core_of (digits ++ 48 ∷ [])) ≡ value_of (core_of digits) = ap value_of (core_zero digits) in
+    let core : numeral_value (core_of digits) ≡ 0 = omega arith in
+    let before : numeral_value digits ≡ 0 = is.value ∙ ap (λ n. n * 10 ^ s.zeros) core ∙ (let z : 0 * 10 ^ s.zeros ≡ 0 = omega arith in z) in
+    let after : numeral_value (digits ++ 48 ∷ []) ≡ 0 = numeral_value-push digits 48 ∙ (let z : numeral_value digits * 10 + (48 - 48) ≡ 0 = omega arith in z) in
+    let same : numeral_value (core_of (digits ++ 48 ∷ [])) ≡ numeral_value (core_of digits) = ap numeral_value (core_zero digits) in
     record {
       number = number ∙ ap (λ n. min n (2 ^ 128 - 1)) (sym same);
       value = after ∙ sym (ap (λ n. n * 10 ^ s.zeros) (same ∙ core) ∙ (let z : 0 * 10 ^ s.zeros ≡ 0 = omega arith in z));
     }
 zero_step digits s false e is =
-    let same : value_of (core_of (digits ++ 48 ∷ [])) ≡ value_of (core_of digits) = ap value_of (core_zero digits) in
+    let same : numeral_value (core_of (digits ++ 48 ∷ [])) ≡ numeral_value (core_of digits) = ap numeral_value (core_zero digits) in
     let power : 10 ^ (s.zeros + 1) ≡ 10 ^ s.zeros * 10 = pow_more 10 s.zeros in
     record {
       number = is.number ∙ ap (λ n. min n (2 ^ 128 - 1)) (sym same);
-      value = value_of-push digits 48
-          ∙ (let z : value_of digits * 10 + (48 - 48) ≡ value_of digits * 10 = omega arith in z)
+      value = numeral_value-push digits 48
+          ∙ (let z : numeral_value digits * 10 + (48 - 48) ≡ numeral_value digits * 10 = omega arith in z)
           ∙ ap (λ n. n * 10) is.value
-          ∙ (let z : value_of (core_of digits) * 10 ^ s.zeros * 10 ≡ value_of (core_of digits) * (10 ^ s.zeros * 10) = omega arith in z)
+          ∙ (let z : numeral_value (core_of digits) * 10 ^ s.zeros * 10 ≡ numeral_value (core_of digits) * (10 ^ s.zeros * 10) = omega arith in z)
           ∙ ap₂ (λ x y. x * y) (sym same) (sym power);
     }
 
@@ -156,18 +156,18 @@ digit_step digits s digit true e is =
     let t = cond (eqb s.number 0) s (record { number = s.number; zeros = s.zeros + 1 }) in
     subst (λ d. IsSignificant (digits ++ d ∷ []) t) (sym none) (zero_step digits s (eqb s.number 0) refl is)
 digit_step digits s digit false e is =
-    let m = value_of (core_of digits) in
+    let m = numeral_value (core_of digits) in
     let power : 10 ^ (s.zeros + 1) ≡ 10 ^ s.zeros * 10 = pow_more 10 s.zeros in
     let some : 0 < 10 ^ (s.zeros + 1) = ten_some (s.zeros + 1) in
-    let shifted : value_of digits * 10 ≡ m * 10 ^ (s.zeros + 1) =
+    let shifted : numeral_value digits * 10 ≡ m * 10 ^ (s.zeros + 1) =
     ap (λ n. n * 10) is.value ∙ (let z : m * 10 ^ s.zeros * 10 ≡ m * (10 ^ s.zeros * 10) = omega arith in z) ∙ ap (λ n. m * n) (sym power) in
-    let core : value_of (core_of (digits ++ digit ∷ [])) ≡ m * 10 ^ (s.zeros + 1) + (digit - 48) = core_push digits digit e ∙ ap (λ n. n + (digit - 48)) shifted in
-    let whole : value_of (digits ++ digit ∷ []) ≡ value_of (core_of (digits ++ digit ∷ [])) = value_of-push digits digit ∙ sym (core_push digits digit e) in
+    let core : numeral_value (core_of (digits ++ digit ∷ [])) ≡ m * 10 ^ (s.zeros + 1) + (digit - 48) = core_push digits digit e ∙ ap (λ n. n + (digit - 48)) shifted in
+    let whole : numeral_value (digits ++ digit ∷ []) ≡ numeral_value (core_of (digits ++ digit ∷ [])) = numeral_value-push digits digit ∙ sym (core_push digits digit e) in
     record {
       number = ap (λ n. min (n * 10 ^ (s.zeros + 1) + (digit - 48)) (2 ^ 128 - 1)) is.number
           ∙ bounded m (2 ^ 128 - 1) (10 ^ (s.zeros + 1)) (digit - 48) some
           ∙ ap (λ n. min n (2 ^ 128 - 1)) (sym core);
-      value = whole ∙ (let z : value_of (core_of (digits ++ digit ∷ [])) ≡ value_of (core_of (digits ++ digit ∷ [])) * 1 = omega arith in z);
+      value = whole ∙ (let z : numeral_value (core_of (digits ++ digit ∷ [])) ≡ numeral_value (core_of (digits ++ digit ∷ [])) * 1 = omega arith in z);
     }
 
 significant_digit_more : (digits : List ℕ) (s : Significant) (digit : ℕ) → IsSignificant digits s → IsSignificant (digits ++ digit ∷ []) (with_digit s digit)
@@ -236,8 +236,8 @@ last_first (digit ∷ digits) first = last_first_step digit digits (list_all is_
 core_is : (digits : List ℕ) → are_digits digits ≡ true → IsCore (core_of digits)
 core_is digits all = let first = without_first_core digits all in record { all = last_all (without_first_zeros digits) first.all; first = last_first (without_first_zeros digits) first.first }
 
-at_least : (digits : List ℕ) → IsAboveZero digits → 38 < length digits → 10 ^ 38 ≤ value_of digits
-unfolding value_of
+at_least : (digits : List ℕ) → IsAboveZero digits → 38 < length digits → 10 ^ 38 ≤ numeral_value digits
+unfolding numeral_value
 at_least [] first many = absurd (omega arith)
 at_least (digit ∷ digits) first many =
     let more : 38 ≤ length digits = omega arith in
@@ -246,13 +246,13 @@ at_least (digit ∷ digits) first many =
     let weight : 1 * 10 ^ length digits ≤ (digit - 48) * 10 ^ length digits = mul-le-mul_right (10 ^ length digits) first in
     omega arith
 
-pub few_digits : (digits : List ℕ) → are_digits digits ≡ true → value_of (core_of digits) < 10 ^ 38 → length (core_of digits) ≤ 38
+pub few_digits : (digits : List ℕ) → are_digits digits ≡ true → numeral_value (core_of digits) < 10 ^ 38 → length (core_of digits) ≤ 38
 few_digits digits all small = elim (cases_lt 38 (length (core_of digits))) [
   | inl many ↦ let large = at_least (core_of digits) (core_is digits all).first many in absurd (omega arith)
   | inr few ↦ few
 ]
 
-pub many_digits : (digits : List ℕ) → are_digits digits ≡ true → 10 ^ 38 ≤ value_of (core_of digits) → 38 < length (core_of digits)
+pub many_digits : (digits : List ℕ) → are_digits digits ≡ true → 10 ^ 38 ≤ numeral_value (core_of digits) → 38 < length (core_of digits)
 many_digits digits all large = elim (cases_lt 38 (length (core_of digits))) [
   | inl many ↦ many
   | inr few ↦

@@ -7,7 +7,7 @@ use Rattle.qm_frac.specs.Signs.{signed}
 use Rattle.qm_text.specs.declared.fault.NumberFault.{NumberFault}
 use Rattle.qm_text.specs.declared.fault.NumberFault.TheVariants as fault
 use Rattle.qm_text.specs.declared.significant.Significant.{Significant}
-use Rattle.qm_text.specs.Digits.{value_of}
+use Rattle.qm_text.specs.Digits.{numeral_value}
 use Rattle.qm_text.specs.Decimals.{Decimal, Stays, decimal_value}
 
 -- no byte of the word passes the test
@@ -40,7 +40,7 @@ IsSigned word minus rest =
 
 -- the decimal of its parts
 abbrev pub decimal_of : List ℕ → List ℕ → Bool → List ℕ → Decimal
-decimal_of before behind minus power = record { before = before; behind = behind; exponent = signed minus (value_of power) }
+decimal_of before behind minus power = record { before = before; behind = behind; exponent = signed minus (numeral_value power) }
 
 -- a fraction where it is in range, and that it leaves where it isn't
 abbrev pub IsAnswer : Fraction → Result Fraction NumberFault → Type 0

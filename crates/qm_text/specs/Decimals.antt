@@ -3,7 +3,7 @@ use Rattle.std.specs.Prelude.{◌≡◌, ℕ, suc, ◌+◌, ◌*◌, ◌^◌, �
 use Rattle.std.specs.List.{list_all}
 use Rattle.qm_math.specs.Fraction.{Fraction}
 use Rattle.qm_frac.specs.Lowest.{IsInRange, lowest}
-use Rattle.qm_text.specs.Digits.{is_numeral, value_of}
+use Rattle.qm_text.specs.Digits.{is_numeral, numeral_value}
 
 -- the digits before the point and behind it, and the exponent
 pub record Decimal : Type 0 where
@@ -22,8 +22,8 @@ abbrev pub SpellsPower : List ℕ → ℤ → Type 0
 SpellsPower word power =
     (digits : List ℕ)
     × IsTrue (is_numeral digits)
-    × (((word ≡ 45 ∷ digits) × (power ≡ neg_ℤ (pos (value_of digits))))
-    ⊎ (((word ≡ 43 ∷ digits) ⊎ (word ≡ digits)) × (power ≡ pos (value_of digits))))
+    × (((word ≡ 45 ∷ digits) × (power ≡ neg_ℤ (pos (numeral_value digits))))
+    ⊎ (((word ≡ 43 ∷ digits) ⊎ (word ≡ digits)) × (power ≡ pos (numeral_value digits))))
 
 -- nothing; or `e` or `E`, and a power of ten
 abbrev pub SpellsExponent : List ℕ → ℤ → Type 0
@@ -58,7 +58,7 @@ with_tens n above below = lowest (pos (n * 10 ^ above)) (10 ^ below)
 
 -- the number that all digits spell, over a ten for each digit behind the point, and with the tens of the exponent
 abbrev pub decimal_value : Decimal → Fraction
-decimal_value d = with_tens (value_of (digits_of d)) (tens_above d.exponent) (length d.behind + tens_below d.exponent)
+decimal_value d = with_tens (numeral_value (digits_of d)) (tens_above d.exponent) (length d.behind + tens_below d.exponent)
 
 abbrev pub is_zero_digit : ℕ → Bool
 is_zero_digit digit = digit == 48

@@ -16,6 +16,6 @@ abbrev pub is_plain_numeral : List ℕ → Bool
 is_plain_numeral bytes = is_numeral bytes && ((length bytes == 1) || not (slice_index bytes 0 == 48))
 
 -- the number that digits spell in base ten
-unfoldable pub value_of : List ℕ → ℕ
-value_of [] = 0
-value_of (digit ∷ digits) = (digit - 48) * 10 ^ length digits + value_of digits
+unfoldable pub numeral_value : List ℕ → ℕ
+numeral_value [] = 0
+numeral_value (digit ∷ digits) = (digit - 48) * 10 ^ length digits + numeral_value digits

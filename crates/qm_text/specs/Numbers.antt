@@ -4,11 +4,11 @@ use Rattle.std.specs.Fmt.{decimal, signed_decimal}
 use Rattle.qm_math.specs.Fraction.{Fraction}
 use Rattle.qm_frac.specs.Gcd.{gcd_of}
 use Rattle.qm_frac.specs.Lowest.{IsInRange}
-use Rattle.qm_text.specs.Digits.{is_plain_numeral, value_of}
+use Rattle.qm_text.specs.Digits.{is_plain_numeral, numeral_value}
 
 -- digits without a leading zero
 abbrev pub SpellsNatural : List ℕ → ℕ → Type 0
-SpellsNatural word n = IsTrue (is_plain_numeral word) × (n ≡ value_of word)
+SpellsNatural word n = IsTrue (is_plain_numeral word) × (n ≡ numeral_value word)
 
 -- the same, with a minus before a number below 0; so 0 has none
 abbrev pub SpellsWhole : List ℕ → ℤ → Type 0

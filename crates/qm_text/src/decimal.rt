@@ -1,12 +1,12 @@
 ghost use Rattle.std.specs.Prelude.{◌≡◌, ◌++◌, ℕ, ℤ, List, IsTrue, MatchOption};
 ghost use Rattle.memchr.specs.Find.{is_byte2};
 ghost use Rattle.qm_frac.specs.Signs.{signed};
-ghost use Rattle.qm_text.specs.Digits.{are_digits, is_numeral, value_of};
+ghost use Rattle.qm_text.specs.Digits.{are_digits, is_numeral, numeral_value};
 ghost use Rattle.qm_text.specs.Decimals.{Decimal, SpellsDecimal, SpellsDigits, SpellsExponent, SpellsPower, Stays, decimal_value};
 ghost use Rattle.qm_text.specs.Reading.{Reads};
 ghost use Rattle.qm_text.specs.DecimalSteps.{IsCut, IsExponentCut, IsFrom, IsSigned, IsValue, decimal_of};
 
-use crate::digits::{are_digits, value_of};
+use crate::digits::{are_digits, numeral_value};
 use crate::fault::NumberFault;
 use crate::significant::significant_digits;
 use crate::tens::{TOO_LONG, with_tens};
@@ -88,7 +88,7 @@ fn cut_at_point(front: &[u8]) -> (&[u8], &[u8])
 fn exponent(back: &[u8]) -> Option<(bool, &[u8])>
     requires { IsFrom (is_byte2 101 69) back.now }
     ensures { MatchOption result ((n : ℤ) → ¬ SpellsExponent back.now n)
-        (λ x. SpellsExponent back.now (signed x.0 (value_of x.1.now)) × IsTrue (are_digits x.1.now)) }
+        (λ x. SpellsExponent back.now (signed x.0 (numeral_value x.1.now)) × IsTrue (are_digits x.1.now)) }
 {
     match back.split_first() {
         Some((_, word)) => power(word),
@@ -98,7 +98,7 @@ fn exponent(back: &[u8]) -> Option<(bool, &[u8])>
 
 fn power(word: &[u8]) -> Option<(bool, &[u8])>
     ensures { MatchOption result ((n : ℤ) → ¬ SpellsPower word.now n)
-        (λ x. SpellsPower word.now (signed x.0 (value_of x.1.now)) × IsTrue (are_digits x.1.now)) }
+        (λ x. SpellsPower word.now (signed x.0 (numeral_value x.1.now)) × IsTrue (are_digits x.1.now)) }
 {
     let (minus, digits) = sign(word);
     if digits.is_empty() || !are_digits(digits) {
@@ -129,7 +129,7 @@ fn value(parts: Parts) -> Result<Frac, NumberFault>
         return Err(NumberFault::Leaves);
     }
     let below = parts.behind.len() as u128;
-    let power = value_of(parts.power);
+    let power = numeral_value(parts.power);
     if parts.minus {
         with_tens(digits.number, digits.zeros, below.saturating_add(power))
     } else {

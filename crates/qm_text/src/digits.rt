@@ -1,6 +1,6 @@
 ghost use Rattle.std.specs.Prelude.{◌≡◌, ◌+◌, ◌-◌, ◌*◌, ◌^◌, min, IsTrue};
 ghost use Rattle.std.specs.Char.{is_ascii_digit};
-ghost use Rattle.qm_text.specs.Digits.{are_digits, is_plain_numeral, value_of};
+ghost use Rattle.qm_text.specs.Digits.{are_digits, is_plain_numeral, numeral_value};
 
 /// Whether each byte is a digit.
 pub(crate) fn are_digits(bytes: &[u8]) -> bool
@@ -17,9 +17,9 @@ pub(crate) fn is_plain_numeral(bytes: &[u8]) -> bool
 }
 
 /// The number that digits spell, or the greatest one of 128 bits where they spell more.
-pub(crate) fn value_of(digits: &[u8]) -> u128
+pub(crate) fn numeral_value(digits: &[u8]) -> u128
     requires { IsTrue (are_digits digits.now) }
-    ensures { result ≡ min (value_of digits.now) (2 ^ 128 - 1) }
+    ensures { result ≡ min (numeral_value digits.now) (2 ^ 128 - 1) }
 {
     let mut n: u128 = 0;
     for digit in digits {

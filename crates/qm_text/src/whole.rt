@@ -3,7 +3,7 @@ ghost use Rattle.std.specs.Int.{w64};
 ghost use Rattle.qm_text.specs.Numbers.{SpellsNatural, SpellsWhole};
 ghost use Rattle.qm_text.specs.Reading.{ReadsNumber};
 
-use crate::digits::{is_plain_numeral, value_of};
+use crate::digits::{is_plain_numeral, numeral_value};
 use crate::fault::NumberFault;
 
 /// The whole number that the text spells: digits without a leading zero, a minus before them where it is below 0.
@@ -30,7 +30,7 @@ pub(crate) fn natural(word: &[u8]) -> Result<u128, NumberFault>
     if !is_plain_numeral(word) {
         return Err(NumberFault::NotNumber);
     }
-    let n = value_of(word);
+    let n = numeral_value(word);
     if n > i128::MAX as u128 {
         return Err(NumberFault::Leaves);
     }

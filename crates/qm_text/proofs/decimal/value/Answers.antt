@@ -18,9 +18,9 @@ returns-then-parts c =
     let s = c.significant_digits-digits.result in
     let all = join_digits before behind c.requires.before c.requires.behind in
     let is = significant_of before behind s c.significant_digits-digits.ensures.value in
-    value_below before behind c.args.parts.power.now c.args.parts.minus s c.value_of-power.result c.saturating_add.result c.with_tens.result
+    value_below before behind c.args.parts.power.now c.args.parts.minus s c.numeral_value-power.result c.saturating_add.result c.with_tens.result
     c.if-parts.true all is c.if-digits-ge-TOO_LONG.false c.significant_digits-digits.ensures.few
-    c.value_of-power.ensures c.saturating_add.ensures c.with_tens.ensures
+    c.numeral_value-power.ensures c.saturating_add.ensures c.with_tens.ensures
 
 pub returns-else-parts : goal.returns-else-parts
 returns-else-parts c =
@@ -29,6 +29,6 @@ returns-else-parts c =
     let s = c.significant_digits-digits.result in
     let all = join_digits before behind c.requires.before c.requires.behind in
     let is = significant_of before behind s c.significant_digits-digits.ensures.value in
-    value_above before behind c.args.parts.power.now c.args.parts.minus s c.value_of-power.result c.saturating_add-else-parts.result c.with_tens-else-parts.result
+    value_above before behind c.args.parts.power.now c.args.parts.minus s c.numeral_value-power.result c.saturating_add-else-parts.result c.with_tens-else-parts.result
     c.if-parts.false all is c.if-digits-ge-TOO_LONG.false (omega arith)
-    c.value_of-power.ensures c.saturating_add-else-parts.ensures c.with_tens-else-parts.ensures
+    c.numeral_value-power.ensures c.saturating_add-else-parts.ensures c.with_tens-else-parts.ensures

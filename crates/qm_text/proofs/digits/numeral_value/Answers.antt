@@ -1,10 +1,10 @@
 use Rattle.std.proofs.Common.{◌-◌, ◌^◌, refl, ◌∙◌, arith}
-use Rattle.qm_text.specs.Digits.{value_of}
+use Rattle.qm_text.specs.Digits.{numeral_value}
 use Rattle.qm_text.proofs.Values.{capped_more}
-use Rattle.qm_text.proofs.digits.value_of.Goals as goal
+use Rattle.qm_text.proofs.digits.numeral_value.Goals as goal
 
 pub loop-digit-init : goal.loop-digit-init
-unfolding value_of
+unfolding numeral_value
 loop-digit-init c = refl
 
 pub loop-digit-preserved : goal.loop-digit-preserved
