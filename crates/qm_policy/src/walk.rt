@@ -39,7 +39,7 @@ pub fn test(game: &Game, bx: &mut Bx, value: &Frac, policy: &Policy) -> Result<b
     test_from(Place::at(game, 0), bx, *value, policy)
 }
 
-/// The same from a place on.
+/// Whether the policy passes from a place on.
 #[cycle(test)]
 fn test_from(here: Place<'_>, bx: &mut Bx, value: Frac, policy: &Policy) -> Result<bool, Leaves>
     requires { IsBox here.game.now.vars bx.old }
@@ -135,7 +135,7 @@ fn test_part(
     }
 }
 
-/// The same behind the next variable, once it has this range.
+/// Whether the policy passes behind the next variable, once that has this range.
 #[cycle(test)]
 #[tactic(auto, using(qm_cover::proofs::BoxPlaces::box_narrowed, qm_cover::proofs::Places::put_back_at))]
 fn test_below(
