@@ -27,7 +27,7 @@ use Rattle.qm_search.specs.declared.answers.Answers.{Answers}
 use Rattle.qm_search.specs.declared.answers.Worst.{Worst}
 use Rattle.qm_search.specs.AnswerSteps.{AreAnswers, IsAnswered, IsLeast, IsWorst, SecuresWorst, worse_of}
 use Rattle.qm_search.specs.OutcomeSteps.{IsReached, Secures, SecuresBelow}
-use Rattle.qm_search.specs.PartSteps.{AreSingles, IsBehind}
+use Rattle.qm_search.specs.PartSteps.{AreSingles, IsPast}
 use Rattle.qm_search.proofs.BelowTests.{at_most_of_below, at_most_of_not}
 use Rattle.qm_search.proofs.SingleParts.{push_singles, singles_cover}
 
@@ -142,10 +142,10 @@ answers_is : (parts : List PolicyPart) → out-Policy (Answer parts) ≡ policy_
 answers_is parts = ap out-Policy (sym (rolls-Answer parts)) ∙ out-roll-Policy (policy_node.Answer parts)
 
 pub all_answered : (P : Problem) (rest : List Var) (depth : ℕ) (bx : List Range) (first next : ℤ) (answers : Answers) (worst : Worst) → SetsNext Universal rest
-    → AreAnswers P rest depth bx first (range_at bx depth).low next answers → IsBehind (range_at bx depth) next → answers.worst ≡ Some worst
+    → AreAnswers P rest depth bx first (range_at bx depth).low next answers → IsPast (range_at bx depth) next → answers.worst ≡ Some worst
     → IsReached P rest depth bx worst.value (Answer answers.parts) worst.refute
-all_answered P [] depth bx first next answers worst player are behind e = absurd player
-all_answered P (x ∷ later) depth bx first next answers worst player are behind e =
+all_answered P [] depth bx first next answers worst player are past e = absurd player
+all_answered P (x ∷ later) depth bx first next answers worst player are past e =
     let parts = answers.parts in
     let v = worst.value in
     let least : IsLeast P (x ∷ later) depth bx worst = subst (IsWorst P (x ∷ later) depth bx first next) e are.worst in
@@ -154,7 +154,7 @@ all_answered P (x ∷ later) depth bx first next answers worst player are behind
       positive = least.positive;
       secures = record {
         right = subst (policy_right.IsRightMove P x depth (IsRightPolicy P v later (depth + 1)) bx) (sym (answers_is parts))
-            (player, singles_cover (range_at bx depth) next (map range_of parts) are.singles behind, (λ k d h. (below k d h).right));
+            (player, singles_cover (range_at bx depth) next (map range_of parts) are.singles past, (λ k d h. (below k d h).right));
         in_range = subst (policy_right.IsMoveInRange P depth (IsPolicyInRange P v later (depth + 1)) bx) (sym (answers_is parts)) (λ k d h. (below k d h).in_range);
       };
       refutes = least.refutes;

@@ -29,7 +29,7 @@ use Rattle.qm_search.specs.declared.choices.Best.{Best}
 use Rattle.qm_search.specs.declared.choices.Choices.{Choices}
 use Rattle.qm_search.specs.ChoiceSteps.{AreChoices, IsBest, IsTried, better_of, goal_beyond}
 use Rattle.qm_search.specs.OutcomeSteps.{IsReached, Secures, Refutes}
-use Rattle.qm_search.specs.PartSteps.{AreSingles, IsBehind}
+use Rattle.qm_search.specs.PartSteps.{AreSingles, IsPast}
 use Rattle.qm_search.proofs.BelowTests.{at_most_of_below, at_most_of_not}
 use Rattle.qm_search.proofs.SingleParts.{push_singles, singles_cover}
 
@@ -122,34 +122,34 @@ chooses : (value : ℤ) (below : Policy) → out-Policy (Choose value below) ≡
 chooses value below = ap out-Policy (sym (rolls-Choose value below)) ∙ out-roll-Policy (policy_node.Choose value below)
 
 pub over_refutes : (P : Problem) (rest : List Var) (depth : ℕ) (bx : List Range) (choices : Choices) (next : ℤ) → SetsNext Exists rest
-    → AreChoices P (drop 1 rest) depth bx (range_at bx depth).low next choices → IsBehind (range_at bx depth) next → Refutes P rest depth bx (goal_beyond choices.best) (Over choices.parts)
-over_refutes P [] depth bx choices next player are behind = absurd player
-over_refutes P (x ∷ later) depth bx choices next player are behind =
+    → AreChoices P (drop 1 rest) depth bx (range_at bx depth).low next choices → IsPast (range_at bx depth) next → Refutes P rest depth bx (goal_beyond choices.best) (Over choices.parts)
+over_refutes P [] depth bx choices next player are past = absurd player
+over_refutes P (x ∷ later) depth bx choices next player are past =
     let G = goal_beyond choices.best in
     record {
       right = subst (IsRightMove P [] G x later depth (IsRightRefutation P [] [] G later (depth + 1)) bx) (sym (overs choices.parts))
-          (singles_cover (range_at bx depth) next (map range_of choices.parts) are.singles behind, (λ universal. cc), (λ k d h. (are.below k d h).right));
+          (singles_cover (range_at bx depth) next (map range_of choices.parts) are.singles past, (λ universal. cc), (λ k d h. (are.below k d h).right));
       in_range = subst (IsMoveInRange P [] G depth (IsRefutationInRange P [] [] G later (depth + 1)) bx) (sym (overs choices.parts)) (λ k d h. (are.below k d h).in_range);
     }
 
 best_secures : (P : Problem) (rest : List Var) (depth : ℕ) (bx : List Range) (next : ℤ) (best : Best) → SetsNext Exists rest → IsTried P (drop 1 rest) depth bx (range_at bx depth).low next best
-    → IsBehind (range_at bx depth) next → Secures P rest depth bx best.value (Choose best.choice best.policy)
-best_secures P [] depth bx next best player tried behind = absurd player
-best_secures P (x ∷ later) depth bx next best player tried behind =
+    → IsPast (range_at bx depth) next → Secures P rest depth bx best.value (Choose best.choice best.policy)
+best_secures P [] depth bx next best player tried past = absurd player
+best_secures P (x ∷ later) depth bx next best player tried past =
     let some : (range_at bx depth).low <ℤ next = omega (arith, ints, tried.from, tried.before) in
     record {
       right = subst (policy_right.IsRightMove P x depth (IsRightPolicy P best.value later (depth + 1)) bx) (sym (chooses best.choice best.policy))
-          (player, (tried.from, omega (arith, ints, tried.before, behind.near some)), tried.secures.right);
+          (player, (tried.from, omega (arith, ints, tried.before, past.near some)), tried.secures.right);
       in_range = subst (policy_right.IsMoveInRange P depth (IsPolicyInRange P best.value later (depth + 1)) bx) (sym (chooses best.choice best.policy)) tried.secures.in_range;
     }
 
 pub choice_reached : (P : Problem) (rest : List Var) (depth : ℕ) (bx : List Range) (choices : Choices) (next : ℤ) → SetsNext Exists rest
-    → AreChoices P (drop 1 rest) depth bx (range_at bx depth).low next choices → IsBehind (range_at bx depth) next → (best : Best) → choices.best ≡ Some best
+    → AreChoices P (drop 1 rest) depth bx (range_at bx depth).low next choices → IsPast (range_at bx depth) next → (best : Best) → choices.best ≡ Some best
     → IsReached P rest depth bx best.value (Choose best.choice best.policy) (Over choices.parts)
-choice_reached P rest depth bx choices next player are behind best e =
+choice_reached P rest depth bx choices next player are past best e =
     let tried : IsBest P (drop 1 rest) depth bx (range_at bx depth).low next (Some best) = subst (IsBest P (drop 1 rest) depth bx (range_at bx depth).low next) e are.best in
     record {
       positive = tried.positive;
-      secures = best_secures P rest depth bx next best player tried behind;
-      refutes = subst (λ b. Refutes P rest depth bx (goal_beyond b) (Over choices.parts)) e (over_refutes P rest depth bx choices next player are behind);
+      secures = best_secures P rest depth bx next best player tried past;
+      refutes = subst (λ b. Refutes P rest depth bx (goal_beyond b) (Over choices.parts)) e (over_refutes P rest depth bx choices next player are past);
     }

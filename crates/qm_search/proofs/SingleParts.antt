@@ -5,7 +5,7 @@ use Rattle.std.proofs.lemmas.List.{map-append}
 use Rattle.qm_model.specs.declared.range.Range.{Range}
 use Rattle.qm_model.specs.Boxes.{Cover, FollowOn}
 use Rattle.qm_model.specs.Ranges.{single}
-use Rattle.qm_search.specs.PartSteps.{AreSingles, IsBehind}
+use Rattle.qm_search.specs.PartSteps.{AreSingles, IsPast}
 
 singles_push : (low next : ℤ) (rs : List Range) → AreSingles low next rs → AreSingles low (next +ℤ pos 1) (rs ++ single next ∷ [])
 singles_push low next [] e = (ap single (sym e), ap (λ n. n +ℤ pos 1) e)
@@ -27,9 +27,9 @@ singles_below : (low next : ℤ) (rs : List Range) → AreSingles low next rs �
 singles_below low next [] e = omega (arith, ints, e)
 singles_below low next (r ∷ rs) h = omega (arith, ints, singles_below (low +ℤ pos 1) next rs h.1)
 
-pub singles_cover : (covered : Range) (next : ℤ) (rs : List Range) → AreSingles covered.low next rs → IsBehind covered next → Cover covered rs
-singles_cover covered next [] e behind = omega (arith, ints, e, behind.above)
-singles_cover covered next (r ∷ rs) h behind =
+pub singles_cover : (covered : Range) (next : ℤ) (rs : List Range) → AreSingles covered.low next rs → IsPast covered next → Cover covered rs
+singles_cover covered next [] e past = omega (arith, ints, e, past.above)
+singles_cover covered next (r ∷ rs) h past =
     let some : covered.low <ℤ next = omega (arith, ints, singles_below (covered.low +ℤ pos 1) next rs h.1) in
-    let last : next ≡ covered.high +ℤ pos 1 = omega (arith, ints, behind.above, behind.near some) in
+    let last : next ≡ covered.high +ℤ pos 1 = omega (arith, ints, past.above, past.near some) in
     singles_follow covered.low covered.high (r ∷ rs) (subst (λ n. AreSingles covered.low n (r ∷ rs)) last h)

@@ -8,7 +8,7 @@ abbrev pub AreSingles : ℤ → ℤ → List Range → Type 0
 AreSingles low next [] = low ≡ next
 AreSingles low next (r ∷ rs) = (r ≡ single low) × AreSingles (low +ℤ pos 1) next rs
 
--- the number behind the range's values, where they are counted from its low end on
-pub record IsBehind (r : Range) (next : ℤ) : Type 0 where
+-- the number past the range's values, where they are counted from its low end on
+pub record IsPast (r : Range) (next : ℤ) : Type 0 where
   pub above : r.high <ℤ next
   pub near : r.low <ℤ next → next ≤ℤ (r.high +ℤ pos 1)

@@ -9,7 +9,7 @@ ghost use Rattle.qm_trees.specs.PolicyJudgement.{below_of, range_of};
 ghost use Rattle.qm_legal.specs.SearchSteps.{SetsNext};
 ghost use Rattle.qm_search.specs.AnswerSteps.{AreAnswers, IsReply, is_worse, worse_of};
 ghost use Rattle.qm_search.specs.OutcomeSteps.{IsOutcome};
-ghost use Rattle.qm_search.specs.PartSteps.{IsBehind};
+ghost use Rattle.qm_search.specs.PartSteps.{IsPast};
 
 use crate::answer::Reply;
 use crate::order::is_less;
@@ -96,7 +96,7 @@ impl Answers {
     /// What all the values come to.
     pub fn outcome(self) -> Outcome
         requires { IsSome self.worst }
-        ensures { (P : Problem) (rest : List Var) (depth : ℕ) (bx : List Range) (first next : ℤ) → SetsNext Universal rest → AreAnswers P rest depth bx first (range_at bx depth).low next self → IsBehind (range_at bx depth) next → IsOutcome P rest depth bx result }
+        ensures { (P : Problem) (rest : List Var) (depth : ℕ) (bx : List Range) (first next : ℤ) → SetsNext Universal rest → AreAnswers P rest depth bx first (range_at bx depth).low next self → IsPast (range_at bx depth) next → IsOutcome P rest depth bx result }
     {
         let Answers { worst, parts } = self;
         match worst {

@@ -8,7 +8,7 @@ ghost use Rattle.qm_trees.specs.RefuteJudgement.{below_of, range_of};
 ghost use Rattle.qm_legal.specs.SearchSteps.{SetsNext};
 ghost use Rattle.qm_search.specs.ChoiceSteps.{AreChoices, better_of, is_better};
 ghost use Rattle.qm_search.specs.OutcomeSteps.{IsOutcome};
-ghost use Rattle.qm_search.specs.PartSteps.{IsBehind};
+ghost use Rattle.qm_search.specs.PartSteps.{IsPast};
 
 use crate::order::is_less;
 use crate::outcome::Outcome;
@@ -97,7 +97,7 @@ impl Choices {
 
     /// What all the choices come to.
     pub fn outcome(self, alloc: Global) -> Result<Outcome, Memory>
-        ensures { (P : Problem) (rest : List Var) (depth : ℕ) (bx : List Range) (next : ℤ) → SetsNext Exists rest → AreChoices P (drop 1 rest) depth bx (range_at bx depth).low next self → IsBehind (range_at bx depth) next → IfOk result (IsOutcome P rest depth bx) }
+        ensures { (P : Problem) (rest : List Var) (depth : ℕ) (bx : List Range) (next : ℤ) → SetsNext Exists rest → AreChoices P (drop 1 rest) depth bx (range_at bx depth).low next self → IsPast (range_at bx depth) next → IfOk result (IsOutcome P rest depth bx) }
     {
         let Choices { best, parts } = self;
         let refute = Refute::Over { parts };
