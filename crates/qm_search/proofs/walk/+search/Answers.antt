@@ -114,8 +114,7 @@ best_choice-visit-requires t c =
     let here = c.requires.place.box in
     let v = to_z w64 c.loop-choice.choice-bits in
     let before = c.loop-choice.invariant in
-    let is = c.range-covered.ensures in
-    let high : c.range-covered.result.high ≡ (range_at bx depth).high = ap (λ (r : Range). r.high) is in
+    let high : c.range-covered.result.high ≡ (range_at bx depth).high = ap (λ (r : Range). r.high) c.range-covered.ensures in
     let some = some_next Exists rest c.requires.player in
     let most : v ≤ℤ (range_at bx depth).high = omega (arith, ints, high) in
     let completes = completes_choice c.args.here.rest.now c.args.here.from_depth c.requires.player c.requires.place v in
@@ -129,8 +128,7 @@ best_choice-loop-choice-preserved t c =
     let bx = c.args.bx.now in
     let v = to_z w64 c.loop-choice.choice-bits in
     let before = c.loop-choice.invariant in
-    let is = c.range-covered.ensures in
-    let high : c.range-covered.result.high ≡ (range_at bx depth).high = ap (λ (r : Range). r.high) is in
+    let high : c.range-covered.result.high ≡ (range_at bx depth).high = ap (λ (r : Range). r.high) c.range-covered.ensures in
     let fitting : SFits w64 c.range-covered.result.high = search rules in
     let less : v <ℤ c.range-covered.result.high = omega (arith, ints) in
     let fits : SFits w64 (v +ℤ pos 1) = omega (arith, ints) in
@@ -152,8 +150,7 @@ best_choice-returns-clause-outcome t c =
     let here = c.requires.place.box in
     let v = to_z w64 c.loop-choice.choice-bits in
     let before = c.loop-choice.invariant in
-    let is = c.range-covered.ensures in
-    let high : c.range-covered.result.high ≡ (range_at bx depth).high = ap (λ (r : Range). r.high) is in
+    let high : c.range-covered.result.high ≡ (range_at bx depth).high = ap (λ (r : Range). r.high) c.range-covered.ensures in
     let fitting : SFits w64 c.range-covered.result.high = search rules in
     elim c.loop-choice-test.branch [
       | best_choice-else-loop-choice-test w ↦
@@ -194,8 +191,7 @@ worst_answer-loop-value-preserved t c =
     let first = next_value c.args.completion.now in
     let v = to_z w64 c.loop-value.value-bits in
     let before = c.loop-value.invariant in
-    let is = c.range-covered.ensures in
-    let high : c.range-covered.result.high ≡ (range_at bx depth).high = ap (λ (r : Range). r.high) is in
+    let high : c.range-covered.result.high ≡ (range_at bx depth).high = ap (λ (r : Range). r.high) c.range-covered.ensures in
     let fitting : SFits w64 c.range-covered.result.high = search rules in
     let less : v <ℤ c.range-covered.result.high = omega (arith, ints) in
     let fits : SFits w64 (v +ℤ pos 1) = omega (arith, ints) in
@@ -219,8 +215,7 @@ worst_answer-outcome-requires t c =
     let begins = begins_here c.args.here.rest.now c.args.here.from_depth c.requires.player c.requires.place in
     let v = to_z w64 c.loop-value.value-bits in
     let before = c.loop-value.invariant in
-    let is = c.range-covered.ensures in
-    let high : c.range-covered.result.high ≡ (range_at bx depth).high = ap (λ (r : Range). r.high) is in
+    let high : c.range-covered.result.high ≡ (range_at bx depth).high = ap (λ (r : Range). r.high) c.range-covered.ensures in
     let fitting : SFits w64 c.range-covered.result.high = search rules in
     elim c.loop-value-test.branch [
       | worst_answer-else-loop-value-test w ↦
@@ -245,8 +240,7 @@ worst_answer-returns-clause-outcome t c =
     let first = next_value c.args.completion.now in
     let v = to_z w64 c.loop-value.value-bits in
     let before = c.loop-value.invariant in
-    let is = c.range-covered.ensures in
-    let high : c.range-covered.result.high ≡ (range_at bx depth).high = ap (λ (r : Range). r.high) is in
+    let high : c.range-covered.result.high ≡ (range_at bx depth).high = ap (λ (r : Range). r.high) c.range-covered.ensures in
     let fitting : SFits w64 c.range-covered.result.high = search rules in
     elim c.loop-value-test.branch [
       | worst_answer-else-loop-value-test w ↦
