@@ -3,13 +3,16 @@ ghost use Rattle.qm_model.specs.Boxes.{IsBox};
 ghost use Rattle.qm_model.specs.Sound.{IsRowOver};
 
 use crate::boxes::box_of;
+use crate::certificates::written_line;
 use crate::combinations::combination_line;
 use crate::cuts::cuts_of;
 use crate::empties::empty_line;
 use crate::ends::run_line;
 use crate::legality::legal_line;
+use crate::policies::policy_line;
 use crate::propagations::propagation_line;
 use crate::question::Question;
+use crate::refutations::refutation_line;
 use crate::rows::{point_line, rows_line};
 use crate::solved::solve_line;
 use crate::tableaus::tableau_line;
@@ -93,6 +96,9 @@ fn answer_over(
         Question::Combination => combination_line(alloc, game, cuts, &bx, rest),
         Question::Empty => empty_line(alloc, game, bx, rest),
         Question::Legal => legal_line(alloc, game, bx, rest),
+        Question::Policy => policy_line(alloc, game, bx, rest),
+        Question::Refute => refutation_line(alloc, game, cuts, bx, rest),
         Question::Solve => solve_line(alloc, game),
+        Question::Write => written_line(alloc, game, rest),
     }
 }

@@ -85,7 +85,8 @@ fn goal_line(
     }
 }
 
-fn read_goal(words: &str) -> Option<Goal> {
+/// The goal of the words `any` or `above VALUE`.
+pub fn read_goal(words: &str) -> Option<Goal> {
     if words == "any" {
         return Some(Goal::Any);
     }

@@ -7,12 +7,15 @@
 //! the rows narrow it to, and the reasons.
 //! `combination` tells what a combination comes to that is written as in certificates, as `close o r1=1/2`, or whether it
 //! closes a goal, as `for any` or `for above 3`; `empty` whether a tree passes, given `by` its lines, joined by ` / `.
+//! `policy` tells whether a policy passes, as `reaching 2 by choose 0 / leaf`, and `refute` whether a refutation does, as
+//! `for above 2 by close o`; `write` the text of a certificate that is told by its parts, as `of 0 |  | leaf | close o`.
 //! `legal` tells whether the values that are set before a `depth` can be completed to a play; `solve` the certificate,
 //! its lines joined so.
 #![tactic(auto)]
 
 mod answer;
 mod boxes;
+mod certificates;
 mod combinations;
 mod combos;
 mod cuts;
@@ -20,8 +23,10 @@ mod empties;
 mod ends;
 mod legality;
 mod no_answer;
+mod policies;
 mod propagations;
 mod question;
+mod refutations;
 mod rows;
 mod solved;
 mod tableaus;

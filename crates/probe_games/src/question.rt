@@ -9,7 +9,10 @@ pub enum Question {
     Combination,
     Empty,
     Legal,
+    Policy,
+    Refute,
     Solve,
+    Write,
 }
 
 impl Question {
@@ -23,7 +26,10 @@ impl Question {
             "combination" => Some(Question::Combination),
             "empty" => Some(Question::Empty),
             "legal" => Some(Question::Legal),
+            "policy" => Some(Question::Policy),
+            "refute" => Some(Question::Refute),
             "solve" => Some(Question::Solve),
+            "write" => Some(Question::Write),
             _ => None,
         }
     }
@@ -36,6 +42,8 @@ impl Question {
             Question::Combination => "close",
             Question::Empty => "by ",
             Question::Legal => "depth ",
+            Question::Policy => "reaching ",
+            Question::Refute => "for ",
             _ => "of ",
         }
     }

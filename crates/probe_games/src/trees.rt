@@ -10,22 +10,27 @@ use std::alloc::Global;
 /// The deepest tree that is read.
 const DEPTH: u32 = 8;
 
-// A tree, and the number of the line behind it.
+/// A tree, and the number of the line behind it.
 #[derive(Debug, Drop)]
-struct Read {
-    tree: Empty,
-    next: usize,
+pub struct Read {
+    pub tree: Empty,
+    pub next: usize,
 }
 
 /// The tree of lines as below `illegal` in certificates, joined by ` / `.
 pub fn tree_of(alloc: Global, text: &str) -> Result<Empty, NoAnswer> {
     let lines: Vec<&str> = text.split(" / ").collect(alloc)?;
-    let read = tree_at(alloc, lines.as_slice(), 0, DEPTH)?;
+    let read = tree_from(alloc, lines.as_slice(), 0)?;
     if read.next == lines.len() {
         Ok(read.tree)
     } else {
         Err(NoAnswer::Spelling)
     }
+}
+
+/// The tree that begins at this line.
+pub fn tree_from(alloc: Global, lines: &[&str], at: usize) -> Result<Read, NoAnswer> {
+    tree_at(alloc, lines, at, DEPTH)
 }
 
 #[cycle(trees)]
@@ -79,7 +84,8 @@ fn read_split(line: &str) -> Option<(u32, u32)> {
     Some((read_number(var)?, count.parse::<u32>().ok()?))
 }
 
-fn range_at(lines: &[&str], at: usize) -> Option<Range>
+/// The range of the line `range LOW HIGH` at this place.
+pub fn range_at(lines: &[&str], at: usize) -> Option<Range>
     ensures { IfSome result (λ range. at < length lines.now) }
 {
     let line = lines.get(at)?;

@@ -21,6 +21,3 @@ pub use certificate::Certificate;
 pub use endings::a_passing_certificate_tells_the_ending;
 pub use laws::different_certificates_have_different_texts;
 pub use writer::write;
-
-#[cfg(test)]
-mod tests;

@@ -17,6 +17,3 @@ mod walk;
 
 pub use qm_trees::{Below, Policy, PolicyPart};
 pub use walk::test;
-
-#[cfg(test)]
-mod tests;

@@ -18,6 +18,3 @@ mod walk;
 
 pub use qm_trees::{Refute, RefutePart};
 pub use walk::test;
-
-#[cfg(test)]
-mod tests;
