@@ -40,7 +40,7 @@ pub fn test(game: &Game, bx: &mut Bx, value: &Frac, policy: &Policy) -> Result<b
 }
 
 /// Whether the policy passes from a place on.
-#[cycle(test)]
+#[cycle(judge)]
 fn test_from(here: Place<'_>, bx: &mut Bx, value: Frac, policy: &Policy) -> Result<bool, Leaves>
     requires { IsBox here.game.now.vars bx.old }
     ensures answer { result ≡ answer_of (judge_policy here.entry.game.now value here.entry.rest.now here.entry.depth bx.old policy.now) }
@@ -65,7 +65,7 @@ fn test_from(here: Place<'_>, bx: &mut Bx, value: Frac, policy: &Policy) -> Resu
 }
 
 /// Whether the universal player sets the next variable, and the parts cover its range and pass.
-#[cycle(test)]
+#[cycle(judge)]
 fn test_answer(
     here: Place<'_>,
     bx: &mut Bx,
@@ -85,7 +85,7 @@ fn test_answer(
 }
 
 /// Whether the parts' ranges follow on from the low to the high end, and what stands below each passes.
-#[cycle(test)]
+#[cycle(judge)]
 fn test_answer_parts(
     here: Place<'_>,
     bx: &mut Bx,
@@ -112,7 +112,7 @@ fn test_answer_parts(
 
 /// Whether the part's range follows on, and what stands below it passes: a policy, or a tree that shows that no
 /// universal play has its values there.
-#[cycle(test)]
+#[cycle(judge)]
 fn test_part(
     here: Place<'_>,
     bx: &mut Bx,
@@ -136,7 +136,7 @@ fn test_part(
 }
 
 /// Whether the policy passes behind the next variable, once that has this range.
-#[cycle(test)]
+#[cycle(judge)]
 #[tactic(auto, using(qm_cover::proofs::BoxPlaces::box_narrowed, qm_cover::proofs::Places::put_back_at))]
 fn test_below(
     here: Place<'_>,

@@ -63,7 +63,7 @@ fn goal_is_proper(goal: &Goal)
 }
 
 /// Whether the refutation passes from a place on.
-#[cycle(test)]
+#[cycle(judge)]
 fn test_from(
     here: Place<'_>,
     sought: Sought<'_>,
@@ -107,7 +107,7 @@ fn test_end(game: &Game, sought: Sought<'_>, bx: &Bx, tree: &Refute) -> Result<b
 }
 
 /// Whether there are as many parts as the next variable asks for, and they pass.
-#[cycle(test)]
+#[cycle(judge)]
 fn test_over(
     here: Place<'_>,
     sought: Sought<'_>,
@@ -128,7 +128,7 @@ fn test_over(
 }
 
 /// Whether the parts' ranges follow on from the low to the high end, and the refutation below each passes.
-#[cycle(test)]
+#[cycle(judge)]
 fn test_over_parts(
     here: Place<'_>,
     sought: Sought<'_>,
@@ -155,7 +155,7 @@ fn test_over_parts(
 }
 
 /// Whether the part's range follows on, and the refutation below it passes.
-#[cycle(test)]
+#[cycle(judge)]
 fn test_part(
     here: Place<'_>,
     sought: Sought<'_>,
@@ -177,7 +177,7 @@ fn test_part(
 }
 
 /// Whether the refutation passes behind the next variable, once that has this range.
-#[cycle(test)]
+#[cycle(judge)]
 #[tactic(auto, using(qm_cover::proofs::BoxPlaces::box_narrowed, qm_cover::proofs::Places::put_back_at))]
 fn test_below(
     here: Place<'_>,

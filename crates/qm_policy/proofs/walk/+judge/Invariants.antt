@@ -2,7 +2,7 @@ use Rattle.std.proofs.Common.{◌-◌, ◌*◌, length}
 use Rattle.qm_trees.specs.PolicyJudgement.{range_of}
 use Rattle.qm_cover.proofs.PartSteps.{ArePassed}
 use Rattle.qm_policy.specs.Parts.{judge_part}
-use Rattle.qm_policy.proofs.walk.+test.Given as goal
+use Rattle.qm_policy.proofs.walk.+judge.Given as goal
 
 abbrev pub decreases-test_from : goal.decreases-test_from
 decreases-test_from l = 5 * length l.here.rest.now

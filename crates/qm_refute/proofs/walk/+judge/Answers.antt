@@ -7,7 +7,7 @@ use Rattle.qm_model.specs.Boxes.{IsBox, IsInside}
 use Rattle.qm_model.specs.Ranges.{range_at}
 use Rattle.qm_cover.proofs.PartSteps.{part_inside, part_leaves, part_fails, part_passes}
 use Rattle.qm_refute.proofs.Steps.{over_judged}
-use Rattle.qm_refute.proofs.walk.+test.Goals as goal
+use Rattle.qm_refute.proofs.walk.+judge.Goals as goal
 
 pub test_from-returns-in-Over-clause-answer : goal.test_from-returns-in-Over-clause-answer
 test_from-returns-in-Over-clause-answer t c =

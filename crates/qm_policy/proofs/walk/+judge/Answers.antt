@@ -7,7 +7,7 @@ use Rattle.qm_model.specs.Ranges.{range_at}
 use Rattle.qm_model.proofs.BoxLaws.{IsBox-length}
 use Rattle.qm_cover.proofs.PartSteps.{part_inside, part_leaves, part_fails, part_passes}
 use Rattle.qm_policy.proofs.Steps.{answer_judged}
-use Rattle.qm_policy.proofs.walk.+test.Goals as goal
+use Rattle.qm_policy.proofs.walk.+judge.Goals as goal
 
 pub test_from-test_end-requires : goal.test_from-test_end-requires
 test_from-test_end-requires t c = IsBox-length c.args.here.game.now.vars c.args.bx.now c.requires

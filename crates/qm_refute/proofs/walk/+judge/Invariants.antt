@@ -3,7 +3,7 @@ use Rattle.qm_game.specs.Goals.{goal_of}
 use Rattle.qm_trees.specs.RefuteJudgement.{range_of}
 use Rattle.qm_cover.proofs.PartSteps.{ArePassed}
 use Rattle.qm_refute.specs.Parts.{judge_part}
-use Rattle.qm_refute.proofs.walk.+test.Given as goal
+use Rattle.qm_refute.proofs.walk.+judge.Given as goal
 
 abbrev pub decreases-test_from : goal.decreases-test_from
 decreases-test_from l = 5 * length l.here.rest.now
