@@ -31,7 +31,7 @@ pub fn test_empty(game: &Game, bx: &mut Bx, tree: &Empty) -> Result<bool, Leaves
     test_from(Place::at(game, 0), bx, tree)
 }
 
-/// The same from a place on, where the variables that are still to be set may be split.
+/// Whether the tree passes from a place on, where the variables that are still to be set may be split.
 #[cycle(test_empty)]
 fn test_from(here: Place<'_>, bx: &mut Bx, tree: &Empty) -> Result<bool, Leaves>
     requires { IsBox here.game.now.vars bx.old }
@@ -105,7 +105,7 @@ fn test_part(here: Place<'_>, bx: &mut Bx, follows: bool, part: &EmptyPart) -> R
     test_below(here, bx, part.range, &part.below)
 }
 
-/// The same behind the next variable, once it has this range.
+/// Whether the tree passes behind the next variable, once that has this range.
 #[cycle(test_empty)]
 #[tactic(auto, using(qm_cover::proofs::BoxPlaces::box_narrowed, qm_cover::proofs::Places::put_back_at))]
 fn test_below(here: Place<'_>, bx: &mut Bx, range: Range, tree: &Empty) -> Result<bool, Leaves>
