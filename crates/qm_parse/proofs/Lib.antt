@@ -53,3 +53,10 @@ pub mod NameLaws
 pub mod OneSymbols
 pub mod OneAnswer
 pub mod RowCounts
+pub mod WantedFronts
+pub mod WantedObjectives
+pub mod WantedRows
+pub mod WantedSections
+pub mod WantedBounds
+pub mod WantedStops
+pub mod Wanted
