@@ -26,6 +26,7 @@ use Rattle.qm_parse.proofs.KnownSymbols.{symbols-known}
 use Rattle.qm_parse.proofs.KnownReading.{below-read}
 use Rattle.qm_parse.proofs.FirstFaults.{first_fault}
 use Rattle.qm_parse.proofs.SymbolColons.{colons-known}
+use Rattle.qm_parse.proofs.Wanted.{wanted_at_fault}
 use Rattle.qm_parse.proofs.WrittenTexts.{text_read}
 
 -- the reading of the symbols of a text
@@ -66,7 +67,9 @@ pub wrong-parsed : (text : List ℕ) (tokens : List Token) (names : List (List �
     → (wrong ≢ unread.Memory → read start (empty_draft names) symbols end ≡ Err wrong) → IsParsed text tokens (Err (fault_of wrong))
 unfolding fault_of
 wrong-parsed text tokens names symbols end (unread.Expected at what) named are ends is =
-    record { symbols = symbols; spelled = are; answered = is-first text tokens symbols (unread.Expected at what) are (same-reading text tokens names symbols end named ends ∙ is (λ e. cc)) }
+    let first = is-first text tokens symbols (unread.Expected at what) are (same-reading text tokens names symbols end named ends ∙ is (λ e. cc)) in
+    let colons = colons-known text (names_of text tokens) 0 tokens symbols are in
+    record { symbols = symbols; spelled = are; answered = (first, wanted_at_fault symbols (place_of text (length text)) at what colons first) }
 wrong-parsed text tokens names symbols end (unread.Number at) named are ends is =
     record { symbols = symbols; spelled = are; answered = is-first text tokens symbols (unread.Number at) are (same-reading text tokens names symbols end named ends ∙ is (λ e. cc)) }
 wrong-parsed text tokens names symbols end unread.Memory named are ends is = tt
