@@ -52,4 +52,5 @@ pub mod KindLaws
 pub mod NameLaws
 pub mod OneSymbols
 pub mod OneAnswer
+pub mod SomeAnswer
 pub mod RowCounts
