@@ -52,6 +52,7 @@ pub mod KindLaws
 pub mod NameLaws
 pub mod OneSymbols
 pub mod OneAnswer
+pub mod SomeAnswer
 pub mod RowCounts
 pub mod WantedFronts
 pub mod WantedObjectives

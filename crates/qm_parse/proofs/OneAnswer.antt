@@ -31,7 +31,7 @@ abbrev IsTold : Answer → Type 0
 IsTold answer = answer ≢ Err fault.Memory
 
 -- how an offence is told
-abbrev told : Offence → List ℕ → Place → Answer
+abbrev pub told : Offence → List ℕ → Place → Answer
 told offence.BothPlayers name at = Err (fault.BothPlayers name at)
 told offence.Twice name at = Err (fault.Twice name at)
 told offence.Unknown name at = Err (fault.Unknown name at)

@@ -59,7 +59,7 @@ same-reading text tokens names symbols end named ends =
     ap (λ (ns : List (List ℕ)). read start (empty_draft ns) symbols (place_of text (length text))) (sym named)
     ∙ ap (λ (p : Place). read start (empty_draft names) symbols p) (sym ends)
 
-is-first : (text : List ℕ) (tokens : List Token) (symbols : List Symbol) (wrong : Unread)
+pub is-first : (text : List ℕ) (tokens : List Token) (symbols : List Symbol) (wrong : Unread)
     → AreOf text tokens symbols → reading text tokens symbols ≡ Err wrong → IsFirstFault symbols (place_of text (length text)) wrong
 is-first text tokens symbols wrong are is =
     first_fault (λ names symbols ast end colons is. text_read names symbols end ast is) (names_of text tokens) symbols (place_of text (length text)) wrong (colons-known text (names_of text tokens) 0 tokens symbols are) is

@@ -11,6 +11,7 @@ ghost use Rattle.qm_parse.specs.Faults.{CanGoOn, IsFirstFault, state_behind};
 ghost use Rattle.qm_parse.specs.Reading.{empty_draft, leaves, read, start};
 ghost use Rattle.qm_parse.specs.Texts.{IsText, KnowColons};
 ghost use Rattle.qm_lex.specs.declared.token.Token.{Token};
+ghost use Rattle.qm_lex.specs.Texts.{AreTokens};
 ghost use Rattle.qm_parse.specs.Symbols.{AreSymbols};
 ghost use Rattle.qm_parse.specs.Checks.{NamesRight, name_fault};
 ghost use Rattle.qm_parse.specs.NameFaults.{IsFirstOffence};
@@ -29,6 +30,11 @@ pub fn one_answer()
 {
     one_decimal_a_word();
 }
+
+/// Tokens of a text have an answer, which isn't want of memory.
+pub fn some_answer()
+    ensures { (text : List ℕ) (tokens : List Token) → AreTokens text tokens → (answer : Result Ast ParseFault) × (answer ≢ Err Memory) × IsParsed text tokens answer }
+{}
 
 /// What is a text is read, and gives its tree.
 pub fn a_text_is_read()

@@ -40,7 +40,7 @@ pub use fault::{ParseFault, What};
 pub use laws::{
     a_text_is_read, each_row_takes_a_symbol, expected_is_what_the_part_wants,
     fault_is_the_first_offence, no_fault_where_names_are_right, one_answer, one_fault,
-    one_tree_a_text, symbols_know_their_colons,
+    one_tree_a_text, some_answer, symbols_know_their_colons,
 };
 pub use marks::Marks;
 pub use names::Names;
