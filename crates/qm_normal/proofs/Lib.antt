@@ -42,3 +42,4 @@ pub mod TreesOfTexts
 pub mod ParsedTexts
 pub mod StatedOnce
 pub mod FormSteps
+pub mod NoFaultOfMemory

@@ -1,4 +1,4 @@
-ghost use Rattle.std.specs.Prelude.{◌≡◌, ◌↔◌, ◌<◌, ◌^◌, ℕ, ℤ, All, List, length, Ok, Some};
+ghost use Rattle.std.specs.Prelude.{◌≡◌, ◌≢◌, ◌↔◌, ◌<◌, ◌^◌, ℕ, ℤ, All, List, length, Ok, Err, Some};
 ghost use Rattle.qm_math.specs.Fraction.{IsSame};
 ghost use Rattle.qm_model.specs.declared.game.Problem.{Problem};
 ghost use Rattle.qm_model.specs.declared.row.Row.{Row};
@@ -13,6 +13,7 @@ ghost use Rattle.qm_lex.specs.Texts.{AreTokens};
 ghost use Rattle.qm_parse.specs.Parsing.{IsParsed};
 ghost use Rattle.qm_parse.specs.Symbols.{AreSymbols};
 ghost use Rattle.qm_parse.specs.Texts.{IsText};
+ghost use Rattle.qm_normal.specs.declared.fault.NormalFault.TheVariants.{Memory};
 ghost use Rattle.qm_normal.specs.Meaning.{AreWholeOver, HasNamesInOrder, HasNoConstant, IsMet, MeetsProblem, MeetsText, in_game_order, maximised_value, objective_over, value_over, written_value};
 ghost use Rattle.qm_normal.specs.Normal.{normal_form};
 ghost use Rattle.qm_normal.specs.Stated.{States};
@@ -91,3 +92,8 @@ pub fn one_problem_a_text()
 {
     one_decimal_a_word();
 }
+
+/// Want of memory is no fault of a tree.
+pub fn no_fault_is_want_of_memory()
+    ensures { (ast : Ast) → normal_form ast ≢ Err Memory }
+{}

@@ -32,8 +32,8 @@ mod variables;
 pub use fault::{Counted, NormalFault, Which};
 pub use form::normal;
 pub use laws::{
-    each_list_of_values_is_of_names, normal_forms_are_sound, normal_forms_are_what_is_parsed,
-    numbers_of_a_text_are_proper, one_problem_a_text, rows_are_what_is_written,
-    rows_of_a_text_have_no_constants, the_objective_is_what_is_written,
+    each_list_of_values_is_of_names, no_fault_is_want_of_memory, normal_forms_are_sound,
+    normal_forms_are_what_is_parsed, numbers_of_a_text_are_proper, one_problem_a_text,
+    rows_are_what_is_written, rows_of_a_text_have_no_constants, the_objective_is_what_is_written,
     the_problem_is_what_is_written, trees_of_texts_are_in_order,
 };

@@ -272,7 +272,7 @@ may_not_follow written_is state front rest symbol draft end fault reached ranges
   );
 }
 
-leaving_number : (word : Word) → leaves word ≡ true → word ≡ Number None
+pub leaving_number : (word : Word) → leaves word ≡ true → word ≡ Number None
 unfolding leaves
 leaving_number (Number None) e = refl
 leaving_number (Number (Some value)) e = absurd cc
@@ -284,7 +284,7 @@ leaving_number (Reserved word) e = absurd cc
 leaving_number Infinite e = absurd cc
 leaving_number Free e = absurd cc
 
-number_word : (symbol : Symbol) → symbol.word ≡ Number None → (in_range symbol).word ≡ Number (Some one)
+pub number_word : (symbol : Symbol) → symbol.word ≡ Number None → (in_range symbol).word ≡ Number (Some one)
 number_word symbol is = ap number_in_range is
 
 number_knows : (symbol : Symbol) (rest : List Symbol) → symbol.word ≡ Number (Some one) → KnowsColon symbol rest
@@ -294,7 +294,7 @@ number_no_colon : (symbol : Symbol) (number : Option _) → symbol.word ≡ Numb
 number_no_colon symbol number is e = let apart : Number number ≡ Colon = sym is ∙ e in absurd cc
 
 -- the number in range takes the place of the one that leaves
-range_colons : (front rest : List Symbol) (symbol : Symbol) → symbol.word ≡ Number None → KnowColons (front ++ symbol ∷ rest)
+pub range_colons : (front rest : List Symbol) (symbol : Symbol) → symbol.word ≡ Number None → KnowColons (front ++ symbol ∷ rest)
     → KnowColons (front ++ in_range symbol ∷ rest) × (is_colon_next (front ++ in_range symbol ∷ rest) ↔ is_colon_next (front ++ symbol ∷ rest))
 range_colons [] rest symbol is colons = (
   (number_knows (in_range symbol) rest (number_word symbol is), colons.1),
@@ -306,11 +306,11 @@ range_colons (first ∷ front) rest symbol is colons =
       (λ e. e, λ e. e),
     )
 
-number_stays : (symbol : Symbol) → symbol.word ≡ Number (Some one) → leaves symbol.word ≡ false
+pub number_stays : (symbol : Symbol) → symbol.word ≡ Number (Some one) → leaves symbol.word ≡ false
 unfolding leaves
 number_stays symbol is = ap leaves is
 
-behind_last : (state next : State) (front : List Symbol) (symbol : Symbol) → state_behind start front ≡ Some state → next_state state symbol ≡ Some next → state_behind start (front ++ symbol ∷ []) ≡ Some next
+pub behind_last : (state next : State) (front : List Symbol) (symbol : Symbol) → state_behind start front ≡ Some state → next_state state symbol ≡ Some next → state_behind start (front ++ symbol ∷ []) ≡ Some next
 behind_last state next front symbol reached moves = state_behind-append start state front (symbol ∷ []) reached ∙ state_behind-step state next symbol [] moves
 
 number_leaves : ReadIsWritten → (state next : State) (front rest : List Symbol) (symbol : Symbol) (draft : Draft) (end : Place) (fault : Unread) → state_behind start front ≡ Some state → AreInRange front

@@ -52,4 +52,12 @@ pub mod KindLaws
 pub mod NameLaws
 pub mod OneSymbols
 pub mod OneAnswer
+pub mod SomeAnswer
 pub mod RowCounts
+pub mod WantedFronts
+pub mod WantedObjectives
+pub mod WantedRows
+pub mod WantedSections
+pub mod WantedBounds
+pub mod WantedStops
+pub mod Wanted

@@ -31,7 +31,7 @@ abbrev IsTold : Answer → Type 0
 IsTold answer = answer ≢ Err fault.Memory
 
 -- how an offence is told
-abbrev told : Offence → List ℕ → Place → Answer
+abbrev pub told : Offence → List ℕ → Place → Answer
 told offence.BothPlayers name at = Err (fault.BothPlayers name at)
 told offence.Twice name at = Err (fault.Twice name at)
 told offence.Unknown name at = Err (fault.Unknown name at)
@@ -108,7 +108,7 @@ answered-as : (names : List (List ℕ)) (symbols : List Symbol) (end : Place) (a
     → IsFaulty symbols end answer ⊎ HasTree names symbols answer
 unfolding fault_of
 answered-as names symbols end (Ok ast) known is = inr (tree-of names symbols (Ok ast) is)
-answered-as names symbols end (Err (fault.Expected at what)) known is = inl (record { wrong = unread.Expected at what; first = is; same = refl })
+answered-as names symbols end (Err (fault.Expected at what)) known is = inl (record { wrong = unread.Expected at what; first = is.0; same = refl })
 answered-as names symbols end (Err (fault.Number at)) known is = inl (record { wrong = unread.Number at; first = is; same = refl })
 answered-as names symbols end (Err (fault.BothPlayers name at)) known is = inr (tree-of names symbols (Err (fault.BothPlayers name at)) is)
 answered-as names symbols end (Err (fault.Twice name at)) known is = inr (tree-of names symbols (Err (fault.Twice name at)) is)

@@ -16,7 +16,7 @@ use Rattle.qm_parse.proofs.Beginnings.{AreInRange, in_range-behind, read_in_rang
 use Rattle.qm_parse.proofs.FirstFaults.{no_label-leaves}
 
 -- no number of a text leaves
-text_in_range : (names : List (List ℕ)) (symbols : List Symbol) (ast : Ast) → KnowColons symbols → IsText names symbols ast → AreInRange symbols
+pub text_in_range : (names : List (List ℕ)) (symbols : List Symbol) (ast : Ast) → KnowColons symbols → IsText names symbols ast → AreInRange symbols
 text_in_range names symbols ast colons text =
     let end : Place = record { line = 1; column = 1 } in
     read_in_range start (empty_draft names) symbols end ast (text_reads names symbols ast end colons text)
@@ -73,7 +73,7 @@ leaving_word : (word : Word) → word ≡ Number None → leaves word ≡ true
 unfolding leaves
 leaving_word word is = ap leaves is
 
-stays-range : (word : Word) → leaves word ≡ false → number_in_range word ≡ word
+pub stays-range : (word : Word) → leaves word ≡ false → number_in_range word ≡ word
 unfolding leaves
 stays-range (Number None) e = absurd cc
 stays-range (Number (Some value)) e = refl

@@ -6,6 +6,7 @@ use Rattle.qm_lex.specs.declared.token.Token.{Token}
 use Rattle.qm_lex.specs.Places.{place_of}
 use Rattle.qm_parse.specs.declared.ast.Ast.{Ast}
 use Rattle.qm_parse.specs.declared.fault.ParseFault.{ParseFault}
+use Rattle.qm_parse.specs.declared.fault.What.{What}
 use Rattle.qm_parse.specs.declared.fault.ParseFault.TheVariants as fault
 use Rattle.qm_parse.specs.declared.unread.Unread.{Unread}
 use Rattle.qm_parse.specs.declared.unread.Unread.TheVariants as unread
@@ -14,6 +15,7 @@ use Rattle.qm_parse.specs.Faults.{IsFirstFault}
 use Rattle.qm_parse.specs.Parsing.{fault_of, IsJudged, IsParsed}
 use Rattle.qm_parse.specs.Reading.{empty_ast, empty_draft, read, start}
 use Rattle.qm_parse.specs.Symbols.{AreSymbols, names_of}
+use Rattle.qm_parse.specs.Wants.{Wants}
 use Rattle.qm_parse.specs.Texts.{IsText, Written, with_names, with_written}
 use Rattle.qm_parse.specs.Texts.Written.{Uncertain, Bounded, Listed}
 use Rattle.qm_parse.specs.Checks.{name_fault}
@@ -26,6 +28,7 @@ use Rattle.qm_parse.proofs.KnownSymbols.{symbols-known}
 use Rattle.qm_parse.proofs.KnownReading.{below-read}
 use Rattle.qm_parse.proofs.FirstFaults.{first_fault}
 use Rattle.qm_parse.proofs.SymbolColons.{colons-known}
+use Rattle.qm_parse.proofs.Wanted.{wanted_at_fault}
 use Rattle.qm_parse.proofs.WrittenTexts.{text_read}
 
 -- the reading of the symbols of a text
@@ -56,17 +59,25 @@ same-reading text tokens names symbols end named ends =
     ap (λ (ns : List (List ℕ)). read start (empty_draft ns) symbols (place_of text (length text))) (sym named)
     ∙ ap (λ (p : Place). read start (empty_draft names) symbols p) (sym ends)
 
-is-first : (text : List ℕ) (tokens : List Token) (symbols : List Symbol) (wrong : Unread)
+pub is-first : (text : List ℕ) (tokens : List Token) (symbols : List Symbol) (wrong : Unread)
     → AreOf text tokens symbols → reading text tokens symbols ≡ Err wrong → IsFirstFault symbols (place_of text (length text)) wrong
 is-first text tokens symbols wrong are is =
     first_fault (λ names symbols ast end colons is. text_read names symbols end ast is) (names_of text tokens) symbols (place_of text (length text)) wrong (colons-known text (names_of text tokens) 0 tokens symbols are) is
+
+-- a first fault with the word that its unfinished part wants
+pub expected-first : (text : List ℕ) (tokens : List Token) (symbols : List Symbol) (at : Place) (what : What)
+    → AreOf text tokens symbols → reading text tokens symbols ≡ Err (unread.Expected at what)
+    → (first : IsFirstFault symbols (place_of text (length text)) (unread.Expected at what)) × Wants what symbols first.behind
+expected-first text tokens symbols at what are is =
+    let first = is-first text tokens symbols (unread.Expected at what) are is in
+    (first, wanted_at_fault symbols (place_of text (length text)) at what (colons-known text (names_of text tokens) 0 tokens symbols are) first)
 
 pub wrong-parsed : (text : List ℕ) (tokens : List Token) (names : List (List ℕ)) (symbols : List Symbol) (end : Place) (wrong : Unread)
     → names ≡ names_of text tokens → AreOf text tokens symbols → end ≡ place_of text (length text)
     → (wrong ≢ unread.Memory → read start (empty_draft names) symbols end ≡ Err wrong) → IsParsed text tokens (Err (fault_of wrong))
 unfolding fault_of
 wrong-parsed text tokens names symbols end (unread.Expected at what) named are ends is =
-    record { symbols = symbols; spelled = are; answered = is-first text tokens symbols (unread.Expected at what) are (same-reading text tokens names symbols end named ends ∙ is (λ e. cc)) }
+    record { symbols = symbols; spelled = are; answered = expected-first text tokens symbols at what are (same-reading text tokens names symbols end named ends ∙ is (λ e. cc)) }
 wrong-parsed text tokens names symbols end (unread.Number at) named are ends is =
     record { symbols = symbols; spelled = are; answered = is-first text tokens symbols (unread.Number at) are (same-reading text tokens names symbols end named ends ∙ is (λ e. cc)) }
 wrong-parsed text tokens names symbols end unread.Memory named are ends is = tt

@@ -1,8 +1,10 @@
 -- Names keep their numbers while more are put behind them.
-use Rattle.std.proofs.Common.{◌≡◌, ℕ, true, false, List, [], ◌∷◌, ◌++◌, get_or, length-append, ap, ◌∙◌, arith, cond, Some}
+use Rattle.std.proofs.Common.{◌≡◌, ℕ, suc, Bool, true, false, List, [], ◌∷◌, ◌++◌, length, get_or, length-append, refl, sym, ap, subst, ◌∙◌, arith, cond, Some}
 use Rattle.std.specs.Prelude.{slice_get}
+use Rattle.std.specs.Str.{bytes_eq}
 use Rattle.std.proofs.Math.ListN.{get_or-append}
 use Rattle.std.proofs.lemmas.Option.{get_or_from_slice_get, slice_get-get_or, slice_get_within}
+use Rattle.std.proofs.lemmas.Slice.Eq.{bytes_eq-Decides}
 use Rattle.qm_lex.specs.declared.token.Token.{Token}
 use Rattle.qm_lex.specs.declared.token.Kind.{Kind}
 use Rattle.qm_lex.specs.declared.token.Kind.TheVariants as kind
@@ -30,3 +32,31 @@ unfolding names_behind
 get-names_behind text names [] n x h = h
 get-names_behind text names (token ∷ tokens) n x h =
     get-names_behind text (with_token names token.kind (bytes_of text token)) tokens n x (get-with_token names token.kind (bytes_of text token) n x h)
+
+-- a name has a number
+abbrev pub IsNumbered : List (List ℕ) → List ℕ → Type 0
+IsNumbered names name = (n : ℕ) × (slice_get names n ≡ Some name)
+
+first_or_behind : (other : List ℕ) (names : List (List ℕ)) (name : List ℕ) (b : Bool) → bytes_eq name other ≡ b → (b ≡ false → IsNumbered names name) → IsNumbered (other ∷ names) name
+first_or_behind other names name true e behind = (0, ap (λ (x : List ℕ). Some x) (sym ((bytes_eq-Decides name other).0 e)))
+first_or_behind other names name false e behind = let there = behind refl in (suc there.0, there.1)
+
+standing : (names : List (List ℕ)) (name : List ℕ) → stands_in names name ≡ true → IsNumbered names name
+standing [] name there = absurd cc
+standing (other ∷ names) name there =
+    first_or_behind other names name (bytes_eq name other) refl (λ e. standing names name (let rest : stands_in names name ≡ true = rw e at there in rest))
+
+pushed : (names : List (List ℕ)) (name : List ℕ) → slice_get (names ++ name ∷ []) (length names) ≡ Some name
+pushed [] name = refl
+pushed (other ∷ names) name = pushed names name
+
+with_name-has : (names : List (List ℕ)) (name : List ℕ) (b : Bool) → stands_in names name ≡ b → IsNumbered (cond b names (names ++ name ∷ [])) name
+with_name-has names name true e = standing names name e
+with_name-has names name false e = (length names, pushed names name)
+
+-- the name of a token has a number
+pub with_token-has : (names : List (List ℕ)) (of : Kind) (bytes : List ℕ) → of ≡ kind.Name → IsNumbered (with_token names of bytes) bytes
+unfolding with_token
+with_token-has names of bytes is =
+    let P : Kind → Type 0 = λ k. IsNumbered (with_token names k bytes) bytes in
+    subst P (sym is) (with_name-has names bytes (stands_in names bytes) refl)

@@ -35,7 +35,7 @@ pub record Goes (stage : Stage) (seen : Seen) (draft : Draft) (first : Symbol) (
   pub stays : leaves first.word ≡ false
   pub reads : read next (noted stage seen.uncertainty first.word first.place draft) symbols end ≡ Ok ast
 
-if_some : (b : Bool) (o : Option State) (next : State) → (if b then o else None) ≡ Some next → (b ≡ true) × (o ≡ Some next)
+pub if_some : (b : Bool) (o : Option State) (next : State) → (if b then o else None) ≡ Some next → (b ≡ true) × (o ≡ Some next)
 if_some true o next e = (refl, e)
 if_some false o next e = absurd cc
 

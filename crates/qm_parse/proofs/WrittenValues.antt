@@ -187,7 +187,7 @@ front_read seen before (first ∷ symbols) end ast e =
     (goes BoundSigned seen before first symbols end ast e)
 
 -- a relation and a name behind that value
-turned_twice : (relation : Relation) → relation ≡ turned (turned relation)
+pub turned_twice : (relation : Relation) → relation ≡ turned (turned relation)
 unfolding turned
 turned_twice Less = refl
 turned_twice Greater = refl

@@ -5,6 +5,7 @@ pub mod Reading
 pub mod Parts
 pub mod Texts
 pub mod Faults
+pub mod Wants
 pub mod Checks
 pub mod Symbols
 pub mod Parsing

@@ -15,6 +15,7 @@ use Rattle.qm_parse.specs.Checks.{name_fault}
 use Rattle.qm_parse.specs.Faults.{IsFirstFault}
 use Rattle.qm_parse.specs.Symbols.{AreSymbols, names_of}
 use Rattle.qm_parse.specs.Texts.{IsText}
+use Rattle.qm_parse.specs.Wants.{Wants}
 
 -- the first offence of a tree is of this kind and of this name, at this place
 abbrev pub HasOffence : Ast → Offence → List ℕ → Place → Type 0
@@ -40,9 +41,10 @@ fault_of (unread.Expected at what) = fault.Expected at what
 fault_of (unread.Number at) = fault.Number at
 fault_of unread.Memory = fault.Memory
 
--- Symbols are answered with the judgement of the tree that they spell, or with their first fault where they spell none.
+-- Symbols are answered with the judgement of the tree that they spell, or with their first fault where they spell none; what
+-- is expected there is what the unfinished part wants.
 abbrev pub IsAnswerOf : List (List ℕ) → List Symbol → Place → Result Ast ParseFault → Type 0
-IsAnswerOf names symbols end (Err (fault.Expected at what)) = IsFirstFault symbols end (unread.Expected at what)
+IsAnswerOf names symbols end (Err (fault.Expected at what)) = (first : IsFirstFault symbols end (unread.Expected at what)) × Wants what symbols first.behind
 IsAnswerOf names symbols end (Err (fault.Number at)) = IsFirstFault symbols end (unread.Number at)
 IsAnswerOf names symbols end (Err fault.Memory) = Unit
 IsAnswerOf names symbols end answer = (ast : Ast) × IsText names symbols ast × IsJudged ast answer

@@ -4,10 +4,14 @@ ghost use Rattle.qm_parse.specs.declared.ast.Ast.{Ast};
 ghost use Rattle.qm_parse.specs.declared.stage.State.{State};
 ghost use Rattle.qm_parse.specs.declared.unread.Unread.{Unread};
 ghost use Rattle.qm_parse.specs.declared.word.Symbol.{Symbol};
+ghost use Rattle.qm_parse.specs.declared.unread.Unread.TheVariants.{Expected};
+ghost use Rattle.qm_parse.specs.declared.fault.What.{What};
+ghost use Rattle.qm_parse.specs.Wants.{Wants};
 ghost use Rattle.qm_parse.specs.Faults.{CanGoOn, IsFirstFault, state_behind};
 ghost use Rattle.qm_parse.specs.Reading.{empty_draft, leaves, read, start};
 ghost use Rattle.qm_parse.specs.Texts.{IsText, KnowColons};
 ghost use Rattle.qm_lex.specs.declared.token.Token.{Token};
+ghost use Rattle.qm_lex.specs.Texts.{AreTokens};
 ghost use Rattle.qm_parse.specs.Symbols.{AreSymbols};
 ghost use Rattle.qm_parse.specs.Checks.{NamesRight, name_fault};
 ghost use Rattle.qm_parse.specs.NameFaults.{IsFirstOffence};
@@ -26,6 +30,11 @@ pub fn one_answer()
 {
     one_decimal_a_word();
 }
+
+/// Tokens of a text have an answer, which isn't want of memory.
+pub fn some_answer()
+    ensures { (text : List ℕ) (tokens : List Token) → AreTokens text tokens → (answer : Result Ast ParseFault) × (answer ≢ Err Memory) × IsParsed text tokens answer }
+{}
 
 /// What is a text is read, and gives its tree.
 pub fn a_text_is_read()
@@ -47,6 +56,12 @@ pub fn one_fault()
 pub(crate) fn what_is_read_is_written()
     ensures { (names : List (List ℕ)) (symbols : List Symbol) (end : Place) (ast : Ast) →
         read start (empty_draft names) symbols end ≡ Ok ast → IsText names symbols ast }
+{}
+
+/// The word that a first fault tells is what the part wants that has begun there.
+pub fn expected_is_what_the_part_wants()
+    ensures { (symbols : List Symbol) (end at : Place) (what : What) → KnowColons symbols →
+        (fault : IsFirstFault symbols end (Expected at what)) → Wants what symbols fault.behind }
 {}
 
 /// The names among the symbols of tokens know whether a colon follows.

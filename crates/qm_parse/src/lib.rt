@@ -2,7 +2,8 @@
 //!
 //! `parse` needs a text and its tokens, as `qm_lex` cuts them, and gives the one answer that they have (`Parsing`): the tree
 //! of a text whose names are used right (`Symbols`, `Parts`, `Texts`, `Checks`); or the first fault of its grammar
-//! (`Faults`); or the first name that is used wrong (`NameFaults`). `Ast` says what is written, in the order of the text.
+//! (`Faults`), with the word that its unfinished part wants (`Wants`); or the first name that is used wrong
+//! (`NameFaults`). `Ast` says what is written, in the order of the text.
 //!
 //! Tokens become symbols, where names are numbers of a list (`NameTables`, `Known`); a small automaton says which symbol
 //! may follow a beginning (`Stages`), and a draft takes what each adds (`Reading`, `Drafts`); names are judged last, by
@@ -37,9 +38,9 @@ mod word;
 pub use ast::{Ast, AstBound, AstRow, AstTerm, Named, Relation};
 pub use fault::{ParseFault, What};
 pub use laws::{
-    a_text_is_read, each_row_takes_a_symbol, fault_is_the_first_offence,
-    no_fault_where_names_are_right, one_answer, one_fault, one_tree_a_text,
-    symbols_know_their_colons,
+    a_text_is_read, each_row_takes_a_symbol, expected_is_what_the_part_wants,
+    fault_is_the_first_offence, no_fault_where_names_are_right, one_answer, one_fault,
+    one_tree_a_text, some_answer, symbols_know_their_colons,
 };
 pub use marks::Marks;
 pub use names::Names;
