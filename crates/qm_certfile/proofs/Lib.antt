@@ -4,6 +4,7 @@ mod DifferentTexts
 mod EmptyTold
 mod LineSplits
 mod LineTexts
+mod LowestValues
 mod NumberWords
 mod PolicyTold
 mod RefuteTold

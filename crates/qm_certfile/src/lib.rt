@@ -6,7 +6,7 @@
 //! `different_certificates_have_different_texts`, where no number has more than 64 digits (`Numbers`).
 //!
 //! A certificate that passes (`Passes`) tells how its problem ends, and its policy reaches the value on every universal play:
-//! `a_passing_certificate_tells_the_ending`.
+//! `a_passing_certificate_tells_the_ending`. Its value is in lowest terms: `passing_values_are_in_lowest_terms`.
 #![tactic(auto)]
 
 mod certificate;
@@ -18,7 +18,7 @@ mod trees;
 mod writer;
 
 pub use certificate::Certificate;
-pub use endings::a_passing_certificate_tells_the_ending;
+pub use endings::{a_passing_certificate_tells_the_ending, passing_values_are_in_lowest_terms};
 pub use laws::different_certificates_have_different_texts;
 pub use writer::write;
 
