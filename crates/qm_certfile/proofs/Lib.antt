@@ -1,4 +1,5 @@
 pub mod ToldEndings
+mod Bounds
 mod CertificateTexts
 mod DifferentTexts
 mod EmptyTold
@@ -6,6 +7,7 @@ mod LineSplits
 mod LineTexts
 mod LowestValues
 mod NumberWords
+mod Pieces
 mod PolicyTold
 mod RefuteTold
 mod RowWords
