@@ -40,11 +40,11 @@ whole_fits P us play =
 
 pub told_ending : (P : Problem) (certificate : Certificate) → IsSound P → Passes P certificate → HasEnding P (ending_of certificate)
 told_ending P (Optimal value legal policy refute) sound passes = record {
-  positive = passes.0;
+  positive = passes.0.positive;
   play = legal;
   is_play = passes.1;
   reached = right_wins P sound value policy passes.2;
-  no_better = refused P legal (Above value) refute sound passes.1 passes.0 passes.4;
+  no_better = refused P legal (Above value) refute sound passes.1 passes.0.positive passes.4;
 }
 told_ending P (Infeasible legal refute) sound passes = record {
   play = legal;

@@ -1,6 +1,6 @@
 -- When a certificate shows what it claims.
 use Rattle.std.specs.Prelude.{ℤ, List, []}
-use Rattle.qm_math.specs.Fraction.{HasPositiveDen}
+use Rattle.qm_frac.specs.Lowest.{IsFrac}
 use Rattle.qm_model.specs.declared.game.Problem.{Problem}
 use Rattle.qm_model.specs.Boxes.{whole_box_of}
 use Rattle.qm_model.specs.Goals.{Goal, Any, Above}
@@ -20,12 +20,12 @@ abbrev pub RefutesWhole : Problem → Goal → Refute → Type 0
 RefutesWhole P G tree =
     IsRightRefutation P [] [] G (whole_vars P) 0 (whole_box_of P.vars) tree × IsRefutationInRange P [] [] G (whole_vars P) 0 (whole_box_of P.vars) tree
 
--- The legal values are a universal play; the policy is right at the value and the refutation of anything above it is
--- right, over the whole box; or the refutation of every goal is; or the tree is right that shows that there is no
--- universal play. And no operation of theirs leaves.
+-- The value is a fraction of the program, in lowest terms; the legal values are a universal play; the policy is right
+-- at the value and the refutation of anything above it is right, over the whole box; or the refutation of every goal
+-- is; or the tree is right that shows that there is no universal play. And no operation of theirs leaves.
 abbrev pub Passes : Problem → Certificate → Type 0
 Passes P (Optimal value legal policy refute) =
-    HasPositiveDen value × IsPlay P legal
+    IsFrac value × IsPlay P legal
     × IsRightPolicy P value (whole_vars P) 0 (whole_box_of P.vars) policy × IsPolicyInRange P value (whole_vars P) 0 (whole_box_of P.vars) policy
     × RefutesWhole P (Above value) refute
 Passes P (Infeasible legal refute) = IsPlay P legal × RefutesWhole P Any refute

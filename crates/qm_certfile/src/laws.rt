@@ -3,8 +3,14 @@ ghost use Rattle.qm_model.specs.declared.game.Problem.{Problem};
 ghost use Rattle.qm_certfile.specs.declared.certificate.Certificate.{Certificate};
 ghost use Rattle.qm_certfile.specs.CertificateLines.{certificate_text};
 ghost use Rattle.qm_certfile.specs.Numbers.{greatest_number};
+ghost use Rattle.qm_certfile.specs.WellFormed.{IsWellFormed};
 
 /// Different certificates have different texts, where no number of theirs has more than 64 digits.
 pub fn different_certificates_have_different_texts()
     ensures { (P : Problem) (c d : Certificate) → greatest_number c < 10 ^ 64 → greatest_number d < 10 ^ 64 → certificate_text P c ≡ certificate_text P d → c ≡ d }
+{}
+
+/// Different certificates whose numbers are all of their types have different texts.
+pub fn different_well_formed_certificates_have_different_texts()
+    ensures { (P : Problem) (c d : Certificate) → IsWellFormed c → IsWellFormed d → certificate_text P c ≡ certificate_text P d → c ≡ d }
 {}

@@ -3,10 +3,11 @@
 //! `write` takes a game and a certificate and gives its text in version 1 (`CertificateLines`): the claim, a universal
 //! play, and the trees, a line for each node in the order in which they are judged (`TreeLines`, `Lines`); how rows and
 //! variables are named is the version's style (`Styles`). Nothing is lost:
-//! `different_certificates_have_different_texts`, where no number has more than 64 digits (`Numbers`).
+//! `different_certificates_have_different_texts`, where no number has more than 64 digits (`Numbers`), and so where all
+//! numbers are of their types (`WellFormed`): `different_well_formed_certificates_have_different_texts`.
 //!
 //! A certificate that passes (`Passes`) tells how its problem ends, and its policy reaches the value on every universal play:
-//! `a_passing_certificate_tells_the_ending`.
+//! `a_passing_certificate_tells_the_ending`. Its value is in lowest terms: `passing_values_are_in_lowest_terms`.
 #![tactic(auto)]
 
 mod certificate;
@@ -18,6 +19,9 @@ mod trees;
 mod writer;
 
 pub use certificate::Certificate;
-pub use endings::a_passing_certificate_tells_the_ending;
-pub use laws::different_certificates_have_different_texts;
+pub use endings::{a_passing_certificate_tells_the_ending, passing_values_are_in_lowest_terms};
+pub use laws::{
+    different_certificates_have_different_texts,
+    different_well_formed_certificates_have_different_texts,
+};
 pub use writer::write;

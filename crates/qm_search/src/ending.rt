@@ -24,12 +24,16 @@ fn certified(outcome: Outcome, legal: List<i64>) -> Certificate
             value,
             policy,
             refute,
-        } => Certificate::Optimal {
-            value,
-            legal,
-            policy,
-            refute,
-        },
+        } => {
+            // that it is in lowest terms
+            let _lowest = value.den();
+            Certificate::Optimal {
+                value,
+                legal,
+                policy,
+                refute,
+            }
+        }
     }
 }
 
