@@ -1,16 +1,14 @@
 -- Names and their numbers in the list of all names of a text.
-use Rattle.std.proofs.Common.{◌≡◌, ℕ, zero, suc, Bool, true, false, cond, List, [], ◌∷◌, ◌++◌, length, eqb, Some, refl, ap, sym, subst, ◌∙◌, inl, inr}
+use Rattle.std.proofs.Common.{◌≡◌, ℕ, zero, suc, Bool, true, false, cond, List, [], ◌∷◌, eqb, Some, refl, ap, sym, ◌∙◌, inl, inr}
 use Rattle.std.specs.Prelude.{slice_get}
 use Rattle.std.specs.Str.{bytes_eq}
 use Rattle.std.proofs.lemmas.Bool.{cases_Bool, false≢true}
 use Rattle.std.proofs.lemmas.Bool.Decides.{Decides-eqb}
 use Rattle.std.proofs.lemmas.Slice.Eq.{bytes_eq-Decides}
-use Rattle.qm_lex.specs.declared.token.Kind.{Kind}
 use Rattle.qm_lex.specs.declared.token.Kind.TheVariants as kind
 use Rattle.qm_lex.specs.declared.token.Token.{Token}
-use Rattle.qm_parse.specs.NameTables.{stands_in}
 use Rattle.qm_parse.specs.Symbols.{bytes_of, names_behind, with_token}
-use Rattle.qm_parse.proofs.SymbolNames.{get-names_behind}
+use Rattle.qm_parse.proofs.SymbolNames.{get-names_behind, with_token-has}
 
 -- the place of the first of the names that is this one
 abbrev pub number_of : List (List ℕ) → List ℕ → ℕ
@@ -40,25 +38,6 @@ pub held_at : (names : List (List ℕ)) (name : List ℕ) (n : ℕ) → slice_ge
 held_at [] name n at = absurd cc
 held_at (other ∷ names) name n at =
     found_here other names name (bytes_eq name other) refl (λ e. let behind = other_place other names name n at e in held_at names name behind.0 behind.1)
-
-pushed : (names : List (List ℕ)) (name : List ℕ) → slice_get (names ++ name ∷ []) (length names) ≡ Some name
-pushed [] name = refl
-pushed (other ∷ names) name = pushed names name
-
-standing : (names : List (List ℕ)) (name : List ℕ) → stands_in names name ≡ true → Held names name
-standing [] name there = absurd cc
-standing (other ∷ names) name there =
-    found_here other names name (bytes_eq name other) refl (λ e. standing names name (let rest : stands_in names name ≡ true = rw e at there in rest))
-
-with_name-has : (names : List (List ℕ)) (name : List ℕ) (b : Bool) → stands_in names name ≡ b → (n : ℕ) × (slice_get (cond b names (names ++ name ∷ [])) n ≡ Some name)
-with_name-has names name true e = (number_of names name, standing names name e)
-with_name-has names name false e = (length names, pushed names name)
-
-with_token-has : (names : List (List ℕ)) (of : Kind) (bytes : List ℕ) → of ≡ kind.Name → (n : ℕ) × (slice_get (with_token names of bytes) n ≡ Some bytes)
-unfolding with_token
-with_token-has names of bytes is =
-    let P : Kind → Type 0 = λ k. (n : ℕ) × (slice_get (with_token names k bytes) n ≡ Some bytes) in
-    subst P (sym is) (with_name-has names bytes (stands_in names bytes) refl)
 
 -- the names of tokens are all held
 abbrev pub AreHeld : List ℕ → List (List ℕ) → List Token → Type 0

@@ -1,7 +1,8 @@
 -- Which answers there are.
-use Rattle.std.proofs.Common.{◌≡◌, ◌⊎◌, ◌<◌, ◌-◌, ◌^◌, ◌≤◌, ℕ, List, ◌++◌, Option, Some, None, Result, Ok, Err, IfOk, append-nil, inl, inr, arith, length, length-append, ap, subst, sym, ◌∙◌}
+use Rattle.std.proofs.Common.{◌≡◌, ◌⊎◌, ◌<◌, ◌≤◌, ℕ, List, ◌++◌, Option, Some, None, Result, Ok, Err, IfOk, append-nil, inl, inr, arith, length, length-append, ap, subst, sym, ◌∙◌}
 use Rattle.std.specs.Prelude.{codes}
-use Rattle.std.specs.Io.KnownBytes.{Consumes, IsAtEnd}
+use Rattle.std.specs.Io.KnownBytes.{Appends, Consumes, IsAtEnd}
+use Rattle.qm_io.specs.Causes.{Rose}
 use Rattle.qm_model.specs.declared.game.Problem.{Problem}
 use Rattle.qm_model.specs.Sound.{IsSound}
 use Rattle.qm_certfile.specs.declared.certificate.Certificate.{Certificate}
@@ -24,6 +25,7 @@ use Rattle.qm_top.specs.declared.command.Command.{Command}
 use Rattle.qm_top.specs.declared.command.Command.TheVariants.{Solve}
 use Rattle.qm_top.specs.Words.{Asks}
 use Rattle.qm_top.specs.Lines.{line}
+use Rattle.qm_top.specs.Completeness.{IsComplete, IsDue, IsNoMemory, IsReport}
 use Rattle.qm_top.specs.Answers.{Claims, IsAnswer, Reading, Solves, SolvesProblem, SolvesText, misused, solved, whole_text, longer, failed, no_room, claimed, unbuilt, stated, refused, out_of_memory}
 use Rattle.qm_top.specs.declared.report.Report.{Report}
 use Rattle.qm_top.specs.FaultLines.{TellsNormal}
@@ -66,64 +68,75 @@ no_more (Some xs) (Some ys) bytes told is came =
     omega (arith, ap length same, length-append bytes ys)
 
 -- what was told and came to its end is answered as a whole, or memory ran out
-text_told : (read : Reading) (status : ℕ) (text bytes : List ℕ) → read.before ≡ Some bytes → length bytes ≤ 4194304 → read.faults_after ≡ read.faults_before → read.faults_before < 2 ^ 64 - 1
+text_told : (read : Reading) (status : ℕ) (text bytes : List ℕ) → read.before ≡ Some bytes → length bytes ≤ 4194304 → ¬ Rose read.faults_before read.faults_after
     → Solves read status text → SolvesText bytes status text
-text_told read status text bytes told short same few (whole_text came consumed end fits answer) =
+text_told read status text bytes told short still (whole_text came consumed end fits answer) =
     subst (λ bs. SolvesText bs status text) (sym (all_read read.before read.after came bytes told consumed end)) answer
-text_told read status text bytes told short same few (longer came consumed long is line) =
+text_told read status text bytes told short still (longer came consumed long is line) =
     absurd (omega (arith, no_more read.before read.after came bytes told consumed, short))
-text_told read status text bytes told short same few (failed some rose is line) = absurd (omega arith)
-text_told read status text bytes told short same few (no_room some is line) = out_of_memory is line
+text_told read status text bytes told short still (failed some rose is line) = absurd (still rose)
+text_told read status text bytes told short still (no_room some is line) = out_of_memory is line
 
 -- bytes beyond the limit are told to be, or memory ran out
-length_told : (read : Reading) (status : ℕ) (text bytes : List ℕ) → read.before ≡ Some bytes → 4194304 < length bytes → read.faults_after ≡ read.faults_before → read.faults_before < 2 ^ 64 - 1
-    → Solves read status text → ((status ≡ 6) × (text ≡ line (codes "limit problem"))) ⊎ (status ≡ 10)
-length_told read status text bytes told long same few (whole_text came consumed end fits answer) =
+length_told : (read : Reading) (status : ℕ) (text bytes : List ℕ) → read.before ≡ Some bytes → 4194304 < length bytes → ¬ Rose read.faults_before read.faults_after
+    → Solves read status text → IsReport 6 (line (codes "limit problem")) status text ⊎ IsNoMemory status text
+length_told read status text bytes told long still (whole_text came consumed end fits answer) =
     absurd (omega (arith, ap length (all_read read.before read.after came bytes told consumed end), long, fits))
-length_told read status text bytes told long same few (longer came consumed more is line) = inl (is, line)
-length_told read status text bytes told long same few (failed some rose is line) = absurd (omega arith)
-length_told read status text bytes told long same few (no_room some is line) = inr is
-
-pub told_text_answered : (words : List (List ℕ)) (read : Reading) (status : ℕ) (text bytes : List ℕ)
-    → Asks Solve words → read.before ≡ Some bytes → length bytes ≤ 4194304 → read.faults_after ≡ read.faults_before → read.faults_before < 2 ^ 64 - 1
-    → IsAnswer words read status text → SolvesText bytes status text
-told_text_answered words read status text bytes asks told short same few (misused none unread is line) = absurd (none Solve asks)
-told_text_answered words read status text bytes asks told short same few (solved also answer) = text_told read status text bytes told short same few answer
-
-pub long_text_answered : (words : List (List ℕ)) (read : Reading) (status : ℕ) (text bytes : List ℕ)
-    → Asks Solve words → read.before ≡ Some bytes → 4194304 < length bytes → read.faults_after ≡ read.faults_before → read.faults_before < 2 ^ 64 - 1
-    → IsAnswer words read status text → ((status ≡ 6) × (text ≡ line (codes "limit problem"))) ⊎ (status ≡ 10)
-long_text_answered words read status text bytes asks told long same few (misused none unread is line) = absurd (none Solve asks)
-long_text_answered words read status text bytes asks told long same few (solved also answer) = length_told read status text bytes told long same few answer
+length_told read status text bytes told long still (longer came consumed more is line) = inl (is, line)
+length_told read status text bytes told long still (failed some rose is line) = absurd (still rose)
+length_told read status text bytes told long still (no_room some is line) = inr (is, line)
 
 -- how a problem is solved, where it is one that can be
-built_answered : (P : Problem) (status : ℕ) (text : List ℕ) → IsBuilt P → SolvesProblem P status text → status ≡ 0
-built_answered P status text can (claimed is claims zero) = zero
+built_answered : (P : Problem) (status : ℕ) (text : List ℕ) → IsBuilt P → SolvesProblem P status text → (status ≡ 0) × Claims P text
+built_answered P status text can (claimed is claims zero) = (zero, claims)
 built_answered P status text can (unbuilt cannot is line) = absurd (cannot can)
 
-unbuilt_answered : (P : Problem) (status : ℕ) (text : List ℕ) → ¬ IsBuilt P → SolvesProblem P status text → status ≡ 11
+unbuilt_answered : (P : Problem) (status : ℕ) (text : List ℕ) → ¬ IsBuilt P → SolvesProblem P status text → IsReport 11 (line (codes "unbuilt")) status text
 unbuilt_answered P status text cannot (claimed can claims zero) = absurd (cannot can)
-unbuilt_answered P status text cannot (unbuilt so is line) = is
+unbuilt_answered P status text cannot (unbuilt so is line) = (is, line)
 
 -- the problem that is answered is the one that the bytes state
-stated_answered : OneDecimal → (bytes : List ℕ) (P : Problem) (status : ℕ) (text : List ℕ) → States bytes P → SolvesText bytes status text → SolvesProblem P status text ⊎ (status ≡ 10)
+stated_answered : OneDecimal → (bytes : List ℕ) (P : Problem) (status : ℕ) (text : List ℕ) → States bytes P → SolvesText bytes status text → SolvesProblem P status text ⊎ IsNoMemory status text
 stated_answered law bytes P status text states (stated Q also answer) =
     inl (subst (λ R. SolvesProblem R status text) (one_problem law bytes Q P also states) answer)
 stated_answered law bytes P status text states (refused refusal) = absurd (not_refused law bytes P status text states refusal)
-stated_answered law bytes P status text states (out_of_memory is line) = inr is
+stated_answered law bytes P status text states (out_of_memory is line) = inr (is, line)
 
-pub built_text_answered : OneDecimal → (bytes : List ℕ) (P : Problem) (status : ℕ) (text : List ℕ) → States bytes P → IsBuilt P → SolvesText bytes status text → (status ≡ 0) ⊎ (status ≡ 10)
+built_text_answered : OneDecimal → (bytes : List ℕ) (P : Problem) (status : ℕ) (text : List ℕ) → States bytes P → IsBuilt P → SolvesText bytes status text → ((status ≡ 0) × Claims P text) ⊎ IsNoMemory status text
 built_text_answered law bytes P status text states can answer =
     elim (stated_answered law bytes P status text states answer) [ inl solves ↦ inl (built_answered P status text can solves) | inr is ↦ inr is ]
 
-pub unbuilt_text_answered : OneDecimal → (bytes : List ℕ) (P : Problem) (status : ℕ) (text : List ℕ) → States bytes P → ¬ IsBuilt P → SolvesText bytes status text → (status ≡ 11) ⊎ (status ≡ 10)
+unbuilt_text_answered : OneDecimal → (bytes : List ℕ) (P : Problem) (status : ℕ) (text : List ℕ) → States bytes P → ¬ IsBuilt P → SolvesText bytes status text → IsReport 11 (line (codes "unbuilt")) status text ⊎ IsNoMemory status text
 unbuilt_text_answered law bytes P status text states cannot answer =
     elim (stated_answered law bytes P status text states answer) [ inl solves ↦ inl (unbuilt_answered P status text cannot solves) | inr is ↦ inr is ]
 
-pub refused_text_answered : OneDecimal → (bytes : List ℕ) (status other : ℕ) (text another : List ℕ) → Refuses bytes status text → SolvesText bytes other another → AreSame other status another text ⊎ (other ≡ 10)
+refused_text_answered : OneDecimal → (bytes : List ℕ) (status other : ℕ) (text another : List ℕ) → Refuses bytes status text → SolvesText bytes other another → AreSame other status another text ⊎ IsNoMemory other another
 refused_text_answered law bytes status other text another refusal (stated P states answer) = absurd (not_refused law bytes P status text states refusal)
 refused_text_answered law bytes status other text another refusal (refused also) = inl (one_refusal law bytes other status another text also refusal)
-refused_text_answered law bytes status other text another refusal (out_of_memory is line) = inr is
+refused_text_answered law bytes status other text another refusal (out_of_memory is line) = inr (is, line)
+
+-- what is answered about what was told, by its bytes
+bytes_answered : OneDecimal → (read : Reading) (status : ℕ) (text bytes : List ℕ) → read.before ≡ Some bytes → ¬ Rose read.faults_before read.faults_after → Solves read status text → IsDue bytes status text
+bytes_answered law read status text bytes told still solves = record {
+  long = λ many. length_told read status text bytes told many still solves;
+  built = λ P short states can. built_text_answered law bytes P status text states can (text_told read status text bytes told short still solves);
+  unbuilt = λ P short states cannot. unbuilt_text_answered law bytes P status text states cannot (text_told read status text bytes told short still solves);
+  refused = λ other why short refusal. refused_text_answered law bytes other status why text refusal (text_told read status text bytes told short still solves);
+}
+
+complete_answer : OneDecimal → (words : List (List ℕ)) (read : Reading) (status : ℕ) (text : List ℕ) → IsAnswer words read status text → IsComplete words read status text
+complete_answer law words read status text (misused none unread is line) =
+    record { misused = λ no. (is, line); solve = λ bytes asks told still. absurd (none Solve asks) }
+complete_answer law words read status text (solved asks solves) =
+    record { misused = λ no. absurd (no Solve asks); solve = λ bytes also told still. bytes_answered law read status text bytes told still solves }
+
+-- the sink took the text of a report
+pub complete_report : OneDecimal → (before after : Option (List ℕ)) (words : List (List ℕ)) (read : Reading) (status due : ℕ) (text told : List ℕ)
+    → IsAnswer words read due told → status ≡ due → text ≡ told → Appends before after text
+    → (taken : List ℕ) × Appends before after taken × IsComplete words read status taken
+complete_report law before after words read status due text told answer is same taken =
+    let with_text : IsAnswer words read due text = subst (λ t. IsAnswer words read due t) (sym same) answer in
+    (text, taken, complete_answer law words read status text (subst (λ n. IsAnswer words read n text) (sym is) with_text))
 
 -- a fault of scope or of a limit that is told isn't want of memory
 told_form : (ast : Ast) (fault : NormalFault) (status : ℕ) (text : List ℕ) → Gives (Err fault) (normal_form ast) → TellsNormal fault status text → normal_form ast ≡ Err fault

@@ -1,9 +1,10 @@
--- Bytes are refused with one status and one text, and not where they state a problem.
-use Rattle.std.proofs.Common.{◌≡◌, ◌≢◌, ℕ, List, [], ◌∷◌, Result, Ok, Err, sym, ap, subst, ◌∙◌}
+-- Bytes state a problem or are refused, and not both; they are refused with one status and one text.
+use Rattle.std.proofs.Common.{◌≡◌, ◌≢◌, ℕ, List, [], ◌∷◌, Result, Ok, Err, ◌⊎◌, inl, inr, refl, sym, ap, subst, ◌∙◌}
 use Rattle.std.specs.Prelude.{codes}
 use Rattle.qm_lex.specs.declared.token.Token.{Token}
 use Rattle.qm_lex.specs.Places.{place_of}
 use Rattle.qm_lex.specs.Texts.{AreTokens}
+use Rattle.qm_lex.proofs.Every.{one_of_both}
 use Rattle.qm_lex.proofs.Reached.{tokens_have_no_bad_byte, one_bad}
 use Rattle.qm_model.specs.declared.game.Problem.{Problem}
 use Rattle.qm_parse.specs.declared.ast.Ast.{Ast}
@@ -11,10 +12,12 @@ use Rattle.qm_parse.specs.declared.fault.ParseFault.{ParseFault}
 use Rattle.qm_parse.specs.declared.fault.ParseFault.TheVariants as parse
 use Rattle.qm_parse.specs.Parsing.{IsParsed}
 use Rattle.qm_parse.proofs.OneSymbols.{OneDecimal}
+use Rattle.qm_parse.proofs.SomeAnswer.{some_answer}
 use Rattle.qm_normal.specs.declared.fault.NormalFault.{NormalFault}
 use Rattle.qm_normal.specs.declared.fault.NormalFault.TheVariants as normal
 use Rattle.qm_normal.specs.Normal.{normal_form}
 use Rattle.qm_normal.specs.Stated.{States}
+use Rattle.qm_normal.proofs.NoFaultOfMemory.{form_told}
 use Rattle.qm_normal.proofs.StatedOnce.{one_reading, one_tree, tree_told}
 use Rattle.qm_top.specs.FaultLines.{TellsNormal, TellsParse, text_line}
 use Rattle.qm_top.specs.Refusals.{Refuses, bad_byte, beyond, unread}
@@ -113,3 +116,50 @@ one_refusal law bytes status other text another (beyond tokens ast fault cut par
 one_refusal law bytes status other text another (beyond tokens ast fault cut parsed is line) (beyond others tree worse also read so told) =
     let same : worse ≡ fault = one_form law bytes others tokens tree ast worse fault also read so cut parsed is in
     normal_once fault status other text another line (subst (λ f. TellsNormal f other another) same told)
+
+-- each fault of the grammar that isn't want of memory has a line
+parse_line : (fault : ParseFault) → IsTold (Err fault) → (text : List ℕ) × TellsParse fault text
+parse_line (parse.Expected at what) told = (_, refl)
+parse_line (parse.Number at) told = (_, refl)
+parse_line (parse.BothPlayers name at) told = (_, refl)
+parse_line (parse.Twice name at) told = (_, refl)
+parse_line (parse.Unknown name at) told = (_, refl)
+parse_line (parse.Unordered name at) told = (_, refl)
+parse_line (parse.Infinite name at) told = (_, refl)
+parse_line (parse.NoUpper name at) told = (_, refl)
+parse_line parse.Memory told = absurd (told refl)
+
+-- and so has each fault of scope or of a limit
+normal_line : (fault : NormalFault) → fault ≢ normal.Memory → (status : ℕ) × (text : List ℕ) × TellsNormal fault status text
+normal_line (normal.ContinuousUniversal name at) told = (5, _, (refl, refl))
+normal_line (normal.ContinuousEarly name at) told = (5, _, (refl, refl))
+normal_line (normal.ExistsInUncertainty name at) told = (5, _, (refl, refl))
+normal_line (normal.Many counted n) told = (6, _, (refl, refl))
+normal_line (normal.Domain name) told = (6, _, (refl, refl))
+normal_line (normal.Wide which) told = (6, _, (refl, refl))
+normal_line normal.Memory told = absurd (told refl)
+
+-- bytes state a problem, or are refused
+abbrev IsStatedOrRefused : List ℕ → Type 0
+IsStatedOrRefused bytes = ((P : Problem) × States bytes P) ⊎ ((status : ℕ) × (text : List ℕ) × Refuses bytes status text)
+
+form_or_fault : (bytes : List ℕ) (tokens : List Token) (ast : Ast) (form : Result Problem NormalFault)
+    → AreTokens bytes tokens → IsParsed bytes tokens (Ok ast) → normal_form ast ≡ form → IsStatedOrRefused bytes
+form_or_fault bytes tokens ast (Ok P) cut parsed is = inl (P, record { tokens = tokens; cut = cut; ast = ast; parsed = parsed; normal = is })
+form_or_fault bytes tokens ast (Err fault) cut parsed is =
+    let told : fault ≢ normal.Memory = λ same. let memory : normal_form ast ≡ Err normal.Memory = is ∙ ap (λ (f : NormalFault). Err f) same in form_told ast memory in
+    let line = normal_line fault told in
+    inr (line.0, line.1, beyond tokens ast fault cut parsed is line.2)
+
+tree_or_fault : (bytes : List ℕ) (tokens : List Token) (answer : Result Ast ParseFault) → AreTokens bytes tokens → IsTold answer → IsParsed bytes tokens answer → IsStatedOrRefused bytes
+tree_or_fault bytes tokens (Ok ast) cut told parsed = form_or_fault bytes tokens ast (normal_form ast) cut parsed refl
+tree_or_fault bytes tokens (Err fault) cut told parsed =
+    let line = parse_line fault told in
+    inr (5, line.0, unread tokens fault cut parsed refl line.1)
+
+pub stated_or_refused : (bytes : List ℕ) → IsStatedOrRefused bytes
+stated_or_refused bytes =
+    elim (one_of_both bytes) [
+      | inl cut ↦ let answer = some_answer bytes cut.0 cut.1 in tree_or_fault bytes cut.0 answer.0 cut.1 answer.1 answer.2
+      | inr bad ↦ inr (5, text_line (place_of bytes bad.0) (codes "byte" ∷ []), bad_byte bad.0 bad.1 refl refl)
+    ]

@@ -6,3 +6,4 @@ pub mod Report
 pub mod Stating
 pub mod Built
 pub mod Answers
+pub mod Completeness

@@ -3,7 +3,8 @@
 //! exit status; the sink took exactly the text that goes with it, or failed and took a part of one.
 //! What may be answered is one relation of words, input, status and text (`specs/Answers.antt`): a certificate that passes
 //! the judgement of `qm_certfile` and what it claims is how the problem ends, or the line of `specs/FaultLines.antt` that
-//! says why there is no problem (`specs/Refusals.antt`) or no answer.
+//! says why there is no problem (`specs/Refusals.antt`) or no answer. Words and bytes decide which of these comes, but for
+//! want of memory (`specs/Completeness.antt`), as any bytes state a problem or are refused, and not both (`stated_or_refused`).
 //! `stated_by` is its first half alone: the game that a text states, or the report that refuses it
 //! (`specs/Stating.antt`). Text, tokens and syntax tree are gone when the search begins.
 #![tactic(auto)]
@@ -18,10 +19,7 @@ mod solve;
 mod stated;
 mod top;
 
-pub use laws::{
-    a_long_problem_is_told, a_refused_text_is_told, a_stated_problem_is_answered,
-    what_is_told_is_answered,
-};
+pub use laws::stated_or_refused;
 pub use report::Report;
 pub use stated::{Stated, stated_by};
 pub use top::run;

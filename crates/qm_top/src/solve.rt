@@ -62,7 +62,8 @@ fn solve_bytes(alloc: Global, text: List<u8>) -> Report
 
 /// Reads the problem to its end, and says how it ends, with the trees that show it.
 pub fn solve<P: Source>(alloc: Global, problem: &mut P) -> Report
-    ensures { Solves (reading (P.rest problem.old) (P.rest problem.new) (P.faults problem.old) (P.faults problem.new)) (status_of result) (text_of result) }
+    ensures later { P.faults problem.old ≤ P.faults problem.new }
+    ensures solves { Solves (reading (P.rest problem.old) (P.rest problem.new) (P.faults problem.old) (P.faults problem.new)) (status_of result) (text_of result) }
 {
     match read_all(alloc, problem, MOST) {
         Err(ReadFault::Read) => Report::ReadProblem,

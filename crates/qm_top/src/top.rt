@@ -1,11 +1,17 @@
-ghost use Rattle.std.specs.Prelude.{◌≡◌, ◌≢◌, map, string_bytes};
+ghost use Rattle.std.specs.Prelude.{◌≡◌, ◌≢◌, ◌≤◌, ℕ, List, map, string_bytes};
+ghost use Rattle.std.specs.Io.KnownBytes.{Appends};
+ghost use Rattle.qm_io.specs.Causes.{Rose};
+ghost use Rattle.qm_top.specs.declared.command.Command.{Command};
 ghost use Rattle.qm_top.specs.Answers.{Failed, IsAnswer, Took, reading};
+ghost use Rattle.qm_top.specs.Completeness.{IsComplete};
 ghost use Rattle.qm_top.specs.Report.{status_of, text_of};
+ghost use Rattle.qm_top.specs.Words.{Asks};
 
 use crate::command::{Command, command_of};
 use crate::report::Report;
 use crate::solve::solve;
 use qm_io::{Sink, Source, write_all};
+use qm_text::one_decimal_a_word;
 use std::alloc::Global;
 
 /// The status where the sink failed.
@@ -13,7 +19,9 @@ const WRITE: u8 = 4;
 
 /// What is answered to the words, with the problem's source at hand.
 fn answer<P: Source>(alloc: Global, words: &[String], problem: &mut P) -> Report
-    ensures { IsAnswer (map string_bytes words.now) (reading (P.rest problem.old) (P.rest problem.new) (P.faults problem.old) (P.faults problem.new)) (status_of result) (text_of result) }
+    ensures unread { ((command : Command) → ¬ Asks command (map string_bytes words.now)) → problem.new ≡ problem.old }
+    ensures later { P.faults problem.old ≤ P.faults problem.new }
+    ensures answer { IsAnswer (map string_bytes words.now) (reading (P.rest problem.old) (P.rest problem.new) (P.faults problem.old) (P.faults problem.new)) (status_of result) (text_of result) }
 {
     match command_of(words) {
         None => Report::Usage,
@@ -37,11 +45,20 @@ pub fn run<P: Source, C: Source, M: Source, O: Sink>(
     // It failed, and took a part of what was to be written.
     ensures failed { result ≡ 4 → Failed (O.taken out.old) (O.taken out.new) (O.faults out.old) (O.faults out.new)
         (map string_bytes words.now) (reading (P.rest problem.old) (P.rest problem.new) (P.faults problem.old) (P.faults problem.new)) }
+    // Which of these comes is decided by the words and the bytes, but for want of memory.
+    ensures complete { ¬ Rose (O.faults out.old) (O.faults out.new) → (text : List ℕ) × Appends (O.taken out.old) (O.taken out.new) text
+        × IsComplete (map string_bytes words.now) (reading (P.rest problem.old) (P.rest problem.new) (P.faults problem.old) (P.faults problem.new)) result text }
 
-    // What no command uses stays as it was.
+    // No count of faults falls.
+    ensures read_faults { P.faults problem.old ≤ P.faults problem.new }
+    ensures write_faults { O.faults out.old ≤ O.faults out.new }
+
+    // What the command doesn't use stays as it was.
+    ensures problem { ((command : Command) → ¬ Asks command (map string_bytes words.now)) → problem.new ≡ problem.old }
     ensures certificate { certificate.new ≡ certificate.old }
     ensures moves { moves.new ≡ moves.old }
 {
+    one_decimal_a_word();
     let _ = &*certificate;
     let _ = &*moves;
     let report = answer(alloc, words, problem);

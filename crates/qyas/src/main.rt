@@ -7,7 +7,7 @@
 ghost use Rattle.std.specs.Prelude.{◌≡◌, [], IfOk, slice_get, string_bytes};
 ghost use Rattle.std.specs.Option.{option_map_or};
 
-use qm_io::{FileSource, StdSink, StdSource, write_all};
+use qm_io::{FileSource, StdSink, StdSource};
 use qm_top::run;
 use std::alloc::{AllocError, Global};
 use std::process::ExitCode;
@@ -15,9 +15,6 @@ use std::{env, io};
 
 /// The exit status where there was no memory for the words.
 const NO_MEMORY: u8 = 10;
-
-/// The exit status where the output failed.
-const NO_OUTPUT: u8 = 4;
 
 /// The exit status where the system didn't give the words.
 const NO_WORDS: u8 = 13;
@@ -29,14 +26,6 @@ fn path_at(alloc: Global, words: &[String], at: usize) -> Result<String, AllocEr
     match words.get(at) {
         Some(word) => word.clone(),
         None => Ok(String::new(alloc)),
-    }
-}
-
-/// Says that there was no memory for the words.
-fn tell_memory(rt: &HostRuntime) -> u8 {
-    match write_all(&mut StdSink::new(rt), b"memory\n") {
-        Ok(()) => NO_MEMORY,
-        Err(_) => NO_OUTPUT,
     }
 }
 
@@ -62,7 +51,7 @@ fn main(rt: HostRuntime) -> ExitCode {
         Ok(status) => ExitCode::from(status),
         Err(error) => {
             if error.kind() == io::ErrorKind::OutOfMemory {
-                ExitCode::from(tell_memory(&rt))
+                ExitCode::from(NO_MEMORY)
             } else {
                 ExitCode::from(NO_WORDS)
             }

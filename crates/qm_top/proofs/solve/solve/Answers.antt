@@ -2,12 +2,12 @@ use Rattle.std.proofs.Common.{refl}
 use Rattle.qm_top.specs.Answers.{longer, whole_text}
 use Rattle.qm_top.proofs.solve.solve.Goals as goal
 
-pub returns-in-Ok-Longer : goal.returns-in-Ok-Longer
-returns-in-Ok-Longer g c =
+pub returns-in-Ok-Longer-clause-solves : goal.returns-in-Ok-Longer-clause-solves
+returns-in-Ok-Longer-clause-solves g c =
     let whole = rw c.in-Ok-Longer.field-0-is at c.in-Ok-Longer.ensures.whole in
     longer whole.0 whole.1 whole.2 refl refl
 
-pub returns-in-Ok-Bytes : goal.returns-in-Ok-Bytes
-returns-in-Ok-Bytes g c =
+pub returns-in-Ok-Bytes-clause-solves : goal.returns-in-Ok-Bytes-clause-solves
+returns-in-Ok-Bytes-clause-solves g c =
     let whole = rw c.in-Ok-Bytes.field-0-is at c.in-Ok-Bytes.ensures.whole in
     whole_text c.in-Ok-Bytes.text whole.0 whole.1 whole.2 c.solve_bytes.ensures
