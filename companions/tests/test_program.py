@@ -76,6 +76,7 @@ class ProgramTest(unittest.TestCase):
                     env={**os.environ, "QYAS": fake},
                     stdout=subprocess.PIPE,
                     stderr=subprocess.PIPE,
+                    preexec_fn=heed_interrupts,
                 )
                 running = wait_for(mark)
                 child.send_signal(number)
@@ -84,6 +85,11 @@ class ProgramTest(unittest.TestCase):
                 self.assertNotIn(b"Traceback", told)
                 with self.assertRaises(ProcessLookupError):
                     os.kill(running, 0)
+
+
+def heed_interrupts() -> None:
+    """What runs in the background ignores interrupts, and hands that on to what it starts."""
+    signal.signal(signal.SIGINT, signal.SIG_DFL)
 
 
 def wait_for(path: Path) -> int:
