@@ -79,6 +79,7 @@ class ProgramTest(unittest.TestCase):
                     preexec_fn=heed_interrupts,
                 )
                 running = wait_for(mark)
+                time.sleep(0.5)  # until it is waited for
                 child.send_signal(number)
                 _, told = child.communicate(timeout=20)
                 self.assertEqual(child.returncode, status)
