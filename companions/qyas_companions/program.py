@@ -4,11 +4,12 @@ from __future__ import annotations
 
 import os
 import shutil
+import signal
 import subprocess
 import tempfile
 import time
 from pathlib import Path
-from typing import IO, List, Optional, TextIO
+from typing import IO, Iterable, List, Optional, TextIO
 
 from .faults import (
     Interrupted,
@@ -22,6 +23,7 @@ from .faults import (
     Unbuilt,
 )
 
+ENDING = (signal.SIGINT, signal.SIGTERM)
 BUILT = Path(__file__).resolve().parents[2] / "crates" / "qyas" / "out" / "qyas"
 
 
@@ -66,13 +68,16 @@ def run(program: str, path: str, clock: Optional[TextIO] = None) -> IO[bytes]:
 
 def watched(words: List[str], output: IO[bytes], clock: Optional[TextIO]) -> int:
     """Runs the program to its end. Where this is interrupted, the program is ended first."""
+    before = signal.pthread_sigmask(signal.SIG_BLOCK, ENDING)
     try:
-        child = subprocess.Popen(words, stdin=subprocess.DEVNULL, stdout=output)
-    except OSError as error:
-        raise NoProgram(f"{words[0]} can't be run: {error.strerror}") from None
+        child = begun_with(words, output, before)
+    except BaseException:
+        signal.pthread_sigmask(signal.SIG_SETMASK, before)
+        raise
     begun = time.monotonic()
     told = 0
     try:
+        signal.pthread_sigmask(signal.SIG_SETMASK, before)  # an interrupt of the start is heeded here
         while True:
             try:
                 return child.wait(timeout=1)
@@ -84,6 +89,19 @@ def watched(words: List[str], output: IO[bytes], clock: Optional[TextIO]) -> int
         end(child)
         if clock is not None and told > 0 and clock.isatty():
             clock.write("\n")
+
+
+def begun_with(words: List[str], output: IO[bytes], heeded: Iterable[int]) -> "subprocess.Popen[bytes]":
+    """The program begun, while interrupts are held back: one that came before the child is known would leave it running."""
+    try:
+        return subprocess.Popen(
+            words,
+            stdin=subprocess.DEVNULL,
+            stdout=output,
+            preexec_fn=lambda: signal.pthread_sigmask(signal.SIG_SETMASK, heeded),
+        )
+    except OSError as error:
+        raise NoProgram(f"{words[0]} can't be run: {error.strerror}") from None
 
 
 def tell_seconds(clock: Optional[TextIO], seconds: int, told: int) -> int:

@@ -7,6 +7,7 @@ import sys
 import time
 import unittest
 from pathlib import Path
+from typing import Any
 from unittest import mock
 
 import support
@@ -79,13 +80,30 @@ class ProgramTest(unittest.TestCase):
                     preexec_fn=heed_interrupts,
                 )
                 running = wait_for(mark)
-                time.sleep(0.5)  # until it is waited for
                 child.send_signal(number)
                 _, told = child.communicate(timeout=20)
                 self.assertEqual(child.returncode, status)
                 self.assertNotIn(b"Traceback", told)
                 with self.assertRaises(ProcessLookupError):
                     os.kill(running, 0)
+
+    def test_an_interrupt_while_the_program_starts_ends_it(self) -> None:
+        started = []
+        begin = subprocess.Popen
+
+        def interrupted(*words: Any, **more: Any) -> Any:
+            started.append(begin(*words, **more))
+            os.kill(os.getpid(), signal.SIGINT)
+            return started[0]
+
+        before = signal.signal(signal.SIGINT, signal.default_int_handler)
+        try:
+            with support.room() as folder, mock.patch.object(subprocess, "Popen", interrupted):
+                with self.assertRaises(faults.Interrupted):
+                    program.solve_text(b"", support.fake_program(folder, ["exec sleep 60"]))
+        finally:
+            signal.signal(signal.SIGINT, before)
+        self.assertEqual(started[0].returncode, -signal.SIGTERM)
 
 
 def heed_interrupts() -> None:
