@@ -1,6 +1,5 @@
 -- Exact arithmetic of fractions: each answer is in lowest terms.
-use Rattle.std.specs.Prelude.{ℕ, ◌*◌, ◌/◌, ◌^◌, ◌<◌, ℤ, pos, ◌+ℤ◌, ◌*ℤ◌, ◌≤ℤ◌, ◌<ℤ◌, neg_ℤ, unsigned_abs}
-use Rattle.std.specs.Int.{int_div_euclid}
+use Rattle.std.specs.Prelude.{ℕ, ◌*◌, ◌/◌, ◌^◌, ◌<◌, ℤ, pos, ◌+ℤ◌, ◌*ℤ◌, neg_ℤ, unsigned_abs}
 use Rattle.qm_math.specs.Fraction.{Fraction}
 use Rattle.qm_frac.specs.Gcd.{gcd_of}
 use Rattle.qm_frac.specs.Signs.{signed, is_below_zero}
@@ -43,19 +42,3 @@ inverse a = record { num = signed (is_below_zero a.num) a.den; den = unsigned_ab
 
 abbrev pub quotient : Fraction → Fraction → Fraction
 quotient a b = product a (inverse b)
-
--- the greatest whole number that isn't above
-abbrev pub floor_of : Fraction → ℤ
-floor_of a = int_div_euclid a.num (pos a.den)
-
--- the least whole number that isn't below
-abbrev pub ceil_of : Fraction → ℤ
-ceil_of a = neg_ℤ (floor_of (negated a))
-
--- q is at most a, and q + 1 is above a
-abbrev pub IsFloor : Fraction → ℤ → Type 0
-IsFloor a q = ((q *ℤ pos a.den) ≤ℤ a.num) × (a.num <ℤ (q *ℤ pos a.den +ℤ pos a.den))
-
--- q is at least a, and q - 1 is below a
-abbrev pub IsCeil : Fraction → ℤ → Type 0
-IsCeil a q = (a.num ≤ℤ (q *ℤ pos a.den)) × ((q *ℤ pos a.den) <ℤ (a.num +ℤ pos a.den))

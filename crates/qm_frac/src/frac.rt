@@ -3,7 +3,8 @@ ghost use Rattle.std.specs.Option.{SomeIff};
 ghost use Rattle.std.specs.Int.{int_div_euclid};
 ghost use Rattle.qm_frac.specs.Lowest.{IsFrac, IsInRange, lowest_parts, lowest_terms};
 ghost use Rattle.qm_frac.specs.Signs.{signed};
-ghost use Rattle.qm_frac.specs.Arithmetic.{SumFits, sum, negated, difference, product, inverse, quotient, floor_of, ceil_of, IsFloor, IsCeil};
+ghost use Rattle.qm_frac.specs.Arithmetic.{SumFits, sum, negated, difference, product, inverse, quotient};
+ghost use Rattle.qm_math.specs.Rounding.{IsCeil, IsFloor, ceil_of, floor_of};
 ghost use Rattle.qm_frac.specs.Order.{fraction_cmp};
 
 use crate::leaves::{Leaves, Op};
@@ -173,7 +174,7 @@ impl Frac {
     /// The greatest whole number that isn't above.
     pub fn floor(self) -> i128
         ensures value { result ≡ floor_of self }
-        ensures floor { IsFloor self result }
+        ensures floor { IsFloor result self }
     {
         floor_of_parts(self.num(), self.den())
     }
@@ -181,7 +182,7 @@ impl Frac {
     /// The least whole number that isn't below.
     pub fn ceil(self) -> i128
         ensures value { result ≡ ceil_of self }
-        ensures ceil { IsCeil self result }
+        ensures ceil { IsCeil result self }
     {
         -floor_of_parts(-self.num(), self.den())
     }

@@ -1,5 +1,5 @@
 -- Whole numbers with a magnitude above 0.
-use Rattle.std.proofs.Common.{◌≡◌, ◌≢◌, refl, zero, suc, ◌<◌, arith, ℤ, pos, negsuc, ◌≤ℤ◌, ◌<ℤ◌, unsigned_abs}
+use Rattle.std.proofs.Common.{◌≢◌, refl, zero, suc, ◌<◌, arith, ℤ, pos, negsuc, ◌≤ℤ◌, ◌<ℤ◌, unsigned_abs}
 use Rattle.std.proofs.lemmas.Int.{ints}
 
 pub unsigned_abs-nonzero : (z : ℤ) → z ≢ pos 0 → 0 < unsigned_abs z

@@ -1,12 +1,13 @@
 -- Each fraction has one floor and one ceiling.
 use Rattle.std.proofs.Common.{◌≡◌, ◌∙◌, sym, refl, ap, subst, ℕ, ◌+◌, ◌*◌, ◌/◌, ◌<◌, ◌≤◌, ◌↔◌, arith, [], ◌∷◌, ℤ, pos, negsuc, ◌+ℤ◌, ◌-ℤ◌, ◌*ℤ◌, neg_ℤ, ◌≤ℤ◌, ◌<ℤ◌}
 use Rattle.std.proofs.lemmas.Int.{ints}
+use Rattle.std.specs.Int.{int_div_euclid}
 use Rattle.qm_math.specs.Fraction.{Fraction, whole, IsAtMost, IsBelow, IsSame}
 use Rattle.qm_math.specs.Arithmetic.{negated}
-use Rattle.qm_math.specs.Rounding.{IsFloor, IsCeil, quotient_down, floor_of, ceil_of}
+use Rattle.qm_math.specs.Rounding.{IsFloor, IsCeil, floor_of, ceil_of}
 use Rattle.qm_math.proofs.Whole.{add-*ℤ}
 use Rattle.qm_math.proofs.Polynomials.{number, ◌⊕◌, ◌⊗◌, minus}
-use Rattle.qm_math.proofs.Ring.{x0, x1, x2, ring_le, ring_lt}
+use Rattle.qm_math.proofs.Ring.{x0, x1, x2, ring, ring_le, ring_lt}
 use Rattle.qm_math.proofs.Compare.{at_most_trans, at_most_below, below_at_most}
 use Rattle.qm_math.proofs.FractionOrder.{at_most-same}
 use Rattle.qm_math.proofs.FractionLaws.{whole_den, negated_den}
@@ -18,23 +19,17 @@ quotient_low n d = omega arith
 quotient_high : (n d : ℕ) → 0 < d → n < n / d * d + d
 quotient_high n d h = omega arith
 
-quotient_down_low : (z : ℤ) (d : ℕ) → 0 < d → (quotient_down z d *ℤ pos d) ≤ℤ (z *ℤ pos 1)
-quotient_down_low (pos n) d h = omega (arith, ints, quotient_low n d)
-quotient_down_low (negsuc n) d h = omega (arith, ints, quotient_high n d h)
-
-quotient_down_next : (z : ℤ) (d : ℕ) → 0 < d → (z *ℤ pos 1) <ℤ ((quotient_down z d *ℤ pos d) +ℤ pos d)
-quotient_down_next (pos n) d h = omega (arith, ints, quotient_high n d h)
-quotient_down_next (negsuc n) d h = omega (arith, ints, quotient_low n d)
+pub floor_at : (z : ℤ) (d : ℕ) → 0 < d → ((int_div_euclid z (pos d) *ℤ pos d) ≤ℤ z) × (z <ℤ ((int_div_euclid z (pos d) *ℤ pos d) +ℤ pos d))
+floor_at (pos n) d h = (omega (arith, ints, quotient_low n d), omega (arith, ints, quotient_high n d h))
+floor_at (negsuc n) d h = (omega (arith, ints, quotient_high n d h), omega (arith, ints, quotient_low n d))
 
 add_one-*ℤ : (z : ℤ) (d : ℕ) → (z +ℤ pos 1) *ℤ pos d ≡ (z *ℤ pos d) +ℤ pos d
 add_one-*ℤ z d = add-*ℤ z (pos 1) (pos d) ∙ ap (λ k. (z *ℤ pos d) +ℤ k) (omega (arith, ints))
 
 pub floor_of-IsFloor : (a : Fraction) → 0 < a.den → IsFloor (floor_of a) a
-unfolding floor_of
-floor_of-IsFloor a h = (
-  quotient_down_low a.num a.den h,
-  subst (λ k. (a.num *ℤ pos 1) <ℤ k) (sym (add_one-*ℤ (quotient_down a.num a.den) a.den)) (quotient_down_next a.num a.den h),
-)
+floor_of-IsFloor a h =
+    let at = floor_at a.num a.den h in
+    (omega (arith, ints, at.0), subst (λ k. (a.num *ℤ pos 1) <ℤ k) (sym (add_one-*ℤ (floor_of a) a.den)) (omega (arith, ints, at.1)))
 
 -- ---- it is the greatest
 pub IsFloor-greatest : (n : ℤ) (a : Fraction) (k : ℤ) → IsFloor n a → IsAtMost (whole k) a ↔ (k ≤ℤ n)
@@ -87,7 +82,16 @@ IsCeil-negated n a floor = (
 )
 
 pub ceil_of-IsCeil : (a : Fraction) → 0 < a.den → IsCeil (ceil_of a) a
+unfolding negated
 ceil_of-IsCeil a h = IsCeil-negated (floor_of (negated a)) a (floor_of-IsFloor (negated a) (negated_den a h))
+
+pub ceil_at : (z : ℤ) (d : ℕ) → 0 < d
+    → (z ≤ℤ (neg_ℤ (int_div_euclid (neg_ℤ z) (pos d)) *ℤ pos d)) × ((neg_ℤ (int_div_euclid (neg_ℤ z) (pos d)) *ℤ pos d) <ℤ (z +ℤ pos d))
+ceil_at z d h =
+    let f = int_div_euclid (neg_ℤ z) (pos d) in
+    let at = floor_at (neg_ℤ z) d h in
+    let turned : (neg_ℤ f *ℤ pos d) ≡ neg_ℤ (f *ℤ pos d) = ring (f ∷ pos d ∷ []) (minus x0 ⊗ x1) (minus (x0 ⊗ x1)) refl in
+    (omega (arith, ints, turned, at.0), omega (arith, ints, turned, at.1))
 
 -- a whole number is its own floor and ceiling
 pub IsFloor-whole : (n : ℤ) → IsFloor n (whole n)

@@ -1,5 +1,5 @@
 -- Boxes, the least and the greatest value of a form over one, and ranges that cover a range.
-use Rattle.std.specs.Prelude.{◌≡◌, ℕ, ◌≤◌, max, ℤ, pos, ◌+ℤ◌, ◌≤ℤ◌, ◌<ℤ◌, unsigned_abs, List, [], ◌∷◌, map, drop}
+use Rattle.std.specs.Prelude.{◌≡◌, ℕ, ◌≤◌, max, ℤ, pos, ◌+ℤ◌, ◌≤ℤ◌, ◌<ℤ◌, unsigned_abs, List, [], ◌∷◌, map}
 use Rattle.qm_math.specs.Ranges.{least_product, greatest_product}
 use Rattle.qm_model.specs.declared.row.Term.{Term}
 use Rattle.qm_model.specs.declared.row.Row.{Row}
@@ -33,11 +33,6 @@ IsBox [] [] = Unit {0}
 IsBox [] (r ∷ rs) = ⊥
 IsBox (x ∷ xs) [] = ⊥
 IsBox (x ∷ xs) (r ∷ rs) = IsInside r (bounds_of x) × IsBox xs rs
-
--- a box whose first ranges may be narrowed, and whose others are the variables' own bounds
-pub record IsBoxOfDepth (depth : ℕ) (xs : List Var) (bx : List Range) : Type 0 where
-  pub box : IsBox xs bx
-  pub others : drop depth bx ≡ whole_box_of (drop depth xs)
 
 -- the least value of a form over a box: each coefficient times its better end
 abbrev pub least_value : List Term → List Range → ℤ

@@ -6,8 +6,8 @@ use Rattle.qm_math.specs.Over.{over}
 use Rattle.qm_math.proofs.Polynomials.{number, ◌⊕◌, ◌⊗◌}
 use Rattle.qm_math.proofs.Ring.{x0, x1, x2, ring}
 use Rattle.qm_math.proofs.Whole.{cancel_le, cancel_lt, scaled_le}
-use Rattle.qm_frac.specs.Arithmetic.{ceil_of, floor_of}
-use Rattle.qm_frac.proofs.Rounding.{ceil_is, floor_is}
+use Rattle.qm_math.specs.Rounding.{ceil_of, floor_of}
+use Rattle.qm_math.proofs.Rounding.{ceil_at, floor_at}
 
 -- ---- rounding
 
@@ -37,7 +37,7 @@ floor_le f k num ud some low high = (
 pub whole_lower : (den : ℕ) (k : ℤ) (l : Fraction) → 0 < den → 0 < l.den → ((ceil_of l *ℤ pos den) ≤ℤ (k *ℤ pos den)) ↔ IsAtMost l (over den (k *ℤ pos den))
 whole_lower den k l some l_den =
     let c = ceil_of l in
-    let is = ceil_is l l_den in
+    let is = ceil_at l.num l.den l_den in
     let rounds = ceil_le c k l.num l.den l_den is.0 is.1 in
     let e : (k *ℤ pos l.den) *ℤ pos den ≡ (k *ℤ pos den) *ℤ pos l.den = ring (k ∷ pos l.den ∷ pos den ∷ []) (x0 ⊗ x1 ⊗ x2) (x0 ⊗ x2 ⊗ x1) refl in (
       λ h. subst (λ (m : ℤ). (l.num *ℤ pos den) ≤ℤ m) e (scaled_le l.num (k *ℤ pos l.den) den (rounds.0 (cancel_le c k den some h))),
@@ -47,7 +47,7 @@ whole_lower den k l some l_den =
 pub whole_upper : (den : ℕ) (k : ℤ) (u : Fraction) → 0 < den → 0 < u.den → ((k *ℤ pos den) ≤ℤ (floor_of u *ℤ pos den)) ↔ IsAtMost (over den (k *ℤ pos den)) u
 whole_upper den k u some u_den =
     let f = floor_of u in
-    let is = floor_is u u_den in
+    let is = floor_at u.num u.den u_den in
     let rounds = floor_le f k u.num u.den u_den is.0 is.1 in
     let e : (k *ℤ pos u.den) *ℤ pos den ≡ (k *ℤ pos den) *ℤ pos u.den = ring (k ∷ pos u.den ∷ pos den ∷ []) (x0 ⊗ x1 ⊗ x2) (x0 ⊗ x2 ⊗ x1) refl in (
       λ h. subst (λ (m : ℤ). m ≤ℤ (u.num *ℤ pos den)) e (scaled_le (k *ℤ pos u.den) u.num den (rounds.0 (cancel_le k f den some h))),
@@ -59,7 +59,7 @@ whole_upper den k u some u_den =
 pub outward_lower : (den : ℕ) (n : ℤ) (l : Fraction) → 0 < l.den → IsAtMost l (over den n) → (floor_of l *ℤ pos den) ≤ℤ n
 outward_lower den n l l_den h =
     let f = floor_of l in
-    let is = floor_is l l_den in
+    let is = floor_at l.num l.den l_den in
     let e : (f *ℤ pos l.den) *ℤ pos den ≡ (f *ℤ pos den) *ℤ pos l.den = ring (f ∷ pos l.den ∷ pos den ∷ []) (x0 ⊗ x1 ⊗ x2) (x0 ⊗ x2 ⊗ x1) refl in
     let m : ((f *ℤ pos l.den) *ℤ pos den) ≤ℤ (l.num *ℤ pos den) = scaled_le (f *ℤ pos l.den) l.num den is.0 in
     let g : ((f *ℤ pos den) *ℤ pos l.den) ≤ℤ (l.num *ℤ pos den) = subst (λ (a : ℤ). a ≤ℤ (l.num *ℤ pos den)) e m in
@@ -69,7 +69,7 @@ outward_lower den n l l_den h =
 pub outward_upper : (den : ℕ) (n : ℤ) (u : Fraction) → 0 < u.den → IsAtMost (over den n) u → n ≤ℤ (ceil_of u *ℤ pos den)
 outward_upper den n u u_den h =
     let c = ceil_of u in
-    let is = ceil_is u u_den in
+    let is = ceil_at u.num u.den u_den in
     let e : (c *ℤ pos u.den) *ℤ pos den ≡ (c *ℤ pos den) *ℤ pos u.den = ring (c ∷ pos u.den ∷ pos den ∷ []) (x0 ⊗ x1 ⊗ x2) (x0 ⊗ x2 ⊗ x1) refl in
     let m : (u.num *ℤ pos den) ≤ℤ ((c *ℤ pos u.den) *ℤ pos den) = scaled_le u.num (c *ℤ pos u.den) den is.0 in
     let g : (u.num *ℤ pos den) ≤ℤ ((c *ℤ pos den) *ℤ pos u.den) = subst (λ (a : ℤ). (u.num *ℤ pos den) ≤ℤ a) e m in
@@ -80,7 +80,7 @@ outward_upper den n u u_den h =
 
 pub exact_lower : (den : ℕ) (n : ℤ) (l : Fraction) → l.den ≡ 1 → (floor_of l *ℤ pos den) ≤ℤ n → IsAtMost l (over den n)
 exact_lower den n l one h =
-    let is = floor_is l (let s : 0 < l.den = omega (arith, one) in s) in
+    let is = floor_at l.num l.den (let s : 0 < l.den = omega (arith, one) in s) in
     let f = floor_of l in
     let low : l.num <ℤ ((f *ℤ pos 1) +ℤ pos 1) = subst (λ (d : ℕ). l.num <ℤ ((f *ℤ pos d) +ℤ pos d)) one is.1 in
     let less : l.num ≤ℤ f = omega (arith, ints, low) in
@@ -89,7 +89,7 @@ exact_lower den n l one h =
 
 pub exact_upper : (den : ℕ) (n : ℤ) (u : Fraction) → u.den ≡ 1 → n ≤ℤ (ceil_of u *ℤ pos den) → IsAtMost (over den n) u
 exact_upper den n u one h =
-    let is = ceil_is u (let s : 0 < u.den = omega (arith, one) in s) in
+    let is = ceil_at u.num u.den (let s : 0 < u.den = omega (arith, one) in s) in
     let c = ceil_of u in
     let high : (c *ℤ pos 1) <ℤ (u.num +ℤ pos 1) = subst (λ (d : ℕ). (c *ℤ pos d) <ℤ (u.num +ℤ pos d)) one is.1 in
     let less : c ≤ℤ u.num = omega (arith, ints, high) in

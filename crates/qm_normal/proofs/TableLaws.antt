@@ -5,7 +5,7 @@ use Rattle.std.proofs.Math.Seq.{drop-append_seam}
 use Rattle.std.proofs.lemmas.List.{length-append}
 use Rattle.std.proofs.lemmas.List.Elements.{filter_agree}
 use Rattle.std.specs.List.{filter}
-use Rattle.qm_frac.specs.Arithmetic.{ceil_of, floor_of}
+use Rattle.qm_math.specs.Rounding.{ceil_of, floor_of}
 use Rattle.qm_math.specs.Fraction.{Fraction, whole}
 use Rattle.qm_model.specs.declared.variable.Player.TheVariants.{Exists, All as Universal}
 use Rattle.qm_model.specs.declared.variable.Var.{Var}

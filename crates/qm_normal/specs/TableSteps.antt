@@ -1,7 +1,7 @@
 -- What the tables of a text's variables say, and which text they are of. No public clause cites this.
 use Rattle.std.specs.Prelude.{◌≡◌, ℕ, ℤ, pos, ◌^◌, ◌-ℤ◌, unsigned_abs, Bool, not, ◌&&◌, ◌||◌, nat_le, int_le, List, length, Option, None, slice_index_or, unwrap_or, if◌then◌else◌}
 use Rattle.qm_math.specs.Fraction.{Fraction, whole}
-use Rattle.qm_frac.specs.Arithmetic.{ceil_of, floor_of}
+use Rattle.qm_math.specs.Rounding.{ceil_of, floor_of}
 use Rattle.qm_model.specs.declared.variable.Player.TheVariants.{Exists, All as Universal}
 use Rattle.qm_model.specs.declared.variable.Var.{Var}
 use Rattle.qm_parse.specs.Checks.{sets_upper}

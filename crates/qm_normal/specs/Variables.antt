@@ -1,6 +1,6 @@
 -- The variables of a text, in game order.
 use Rattle.std.specs.Prelude.{ℕ, ℤ, Bool, not, ◌||◌, List, [], ◌++◌, filter, map, slice_get, unwrap_or, if◌then◌else◌}
-use Rattle.qm_frac.specs.Arithmetic.{ceil_of, floor_of}
+use Rattle.qm_math.specs.Rounding.{ceil_of, floor_of}
 use Rattle.qm_model.specs.declared.variable.Player.TheVariants.{Exists, All as Universal}
 use Rattle.qm_model.specs.declared.variable.Var.{Var}
 use Rattle.qm_parse.specs.declared.ast.Ast.{Ast}

@@ -10,7 +10,7 @@ use Rattle.std.proofs.lemmas.List.Elements.{All-cons, All-head, All-nil, All-tai
 use Rattle.std.proofs.lemmas.List.Sums.{sum_by-cons}
 use Rattle.std.proofs.lemmas.Slice.Eq.{bytes_eq-Decides}
 use Rattle.qm_math.specs.Fraction.{Fraction, whole}
-use Rattle.qm_frac.specs.Arithmetic.{ceil_of, floor_of}
+use Rattle.qm_math.specs.Rounding.{ceil_of, floor_of}
 use Rattle.qm_lex.specs.declared.place.Place.{Place}
 use Rattle.qm_model.specs.declared.row.Row.{Row}
 use Rattle.qm_model.specs.declared.variable.Player.TheVariants.{Exists, All as Universal}

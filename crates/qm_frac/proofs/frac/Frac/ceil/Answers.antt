@@ -1,8 +1,8 @@
 use Rattle.std.proofs.Common.{◌<◌, ◌^◌, ◌∙◌, ap, pos, neg_ℤ, unsigned_abs, to_z, of_z, ◌≡◌, ◌-ℤ◌}
 use Rattle.std.specs.Int.{w128}
-use Rattle.qm_frac.specs.Arithmetic.{ceil_of}
+use Rattle.qm_math.specs.Rounding.{ceil_of}
 use Rattle.qm_frac.proofs.SignLaws.{unwrap, zero_minus, unsigned_abs-neg}
-use Rattle.qm_frac.proofs.Rounding.{ceil_is}
+use Rattle.qm_math.proofs.Rounding.{ceil_of-IsCeil}
 use Rattle.qm_frac.proofs.frac.Frac.ceil.Goals as goal
 
 pub returns-clause-ceil : goal.returns-clause-ceil
@@ -16,4 +16,4 @@ returns-clause-ceil c =
     let back : unsigned_abs (neg_ℤ r) < 2 ^ 127 = rw unsigned_abs-neg c.floor_of_parts.ensures.bound in
     let same : to_z w128 (of_z w128 (pos 0 -ℤ to_z w128 (of_z w128 r))) ≡ ceil_of a =
     rw (unwrap r c.floor_of_parts.ensures.bound, zero_minus r, unwrap (neg_ℤ r) back) (ap neg_ℤ q) in
-    rw same (ceil_is a c.num.ensures.terms.positive)
+    rw same (ceil_of-IsCeil a c.num.ensures.terms.positive)
