@@ -13,4 +13,6 @@ pub mod SameSums
 pub mod SameVariables
 pub mod SameProblems
 pub mod SameProblem
+pub mod LineWords
+pub mod WrittenLines
 pub mod WorkedTexts

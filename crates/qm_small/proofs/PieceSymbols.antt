@@ -44,7 +44,7 @@ word_for names bytes labels kind.Infinite = infinite_word bytes
 
 -- ---- numbers
 
-same_value : (bytes : List ℕ) → value_of bytes ≡ text_value bytes
+pub same_value : (bytes : List ℕ) → value_of bytes ≡ text_value bytes
 unfolding value_of text_value
 same_value [] = refl
 same_value (digit ∷ digits) = ap (λ n. (digit - 48) * 10 ^ length digits + n) (same_value digits)

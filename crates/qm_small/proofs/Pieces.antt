@@ -42,10 +42,10 @@ pub record Cut (text : List ℕ) : Type 0 where
 blank_first : (byte : ℕ) (text : List ℕ) → is_blank byte ≡ true → words (byte ∷ text) ≡ cond (eqb byte 10) (after_line (words text)) (words text)
 blank_first byte text blank = rw blank refl
 
-longer_word : (byte : ℕ) (text : List ℕ) → is_blank byte ≡ false → begins_word text ≡ true → words (byte ∷ text) ≡ with_byte byte (words text)
+pub longer_word : (byte : ℕ) (text : List ℕ) → is_blank byte ≡ false → begins_word text ≡ true → words (byte ∷ text) ≡ with_byte byte (words text)
 longer_word byte text p q = rw (p, q) refl
 
-one_byte : (byte : ℕ) (text : List ℕ) → is_blank byte ≡ false → begins_word text ≡ false → words (byte ∷ text) ≡ record { bytes = byte ∷ []; after_line = false } ∷ words text
+pub one_byte : (byte : ℕ) (text : List ℕ) → is_blank byte ≡ false → begins_word text ≡ false → words (byte ∷ text) ≡ record { bytes = byte ∷ []; after_line = false } ∷ words text
 one_byte byte text p q = rw (p, q) refl
 
 no_words : (b : Bool) → cond b (after_line []) [] ≡ []

@@ -84,7 +84,7 @@ terms_have names known list both (w ∷ written) (t ∷ terms) over is =
     All-append Q (term_use t) (term_uses terms) (subst (All Q) (sym (term_use-some t n is.0.name)) one)
     (terms_have names known list both written terms (All-tail P w written over) is.1)
 
-rows_have : (names known : List (List ℕ)) (list : List Named) → Both (NamedIs names) known list → (written : List WrittenRow) (rows : List AstRow) → small.AreRowsOver known written → Both (RowIs names) written rows
+pub rows_have : (names known : List (List ℕ)) (list : List Named) → Both (NamedIs names) known list → (written : List WrittenRow) (rows : List AstRow) → small.AreRowsOver known written → Both (RowIs names) written rows
     → All (λ named. Has list named.name) (row_uses rows)
 rows_have names known list both [] [] over is = All-nil (λ named. Has list named.name)
 rows_have names known list both [] (r ∷ rows) over is = absurd is
@@ -95,12 +95,12 @@ rows_have names known list both (w ∷ written) (r ∷ rows) over is =
     All-append Q (term_uses r.terms) (row_uses rows) (terms_have names known list both w.terms r.terms (All-head P w written over) is.0.terms)
     (rows_have names known list both written rows (All-tail P w written over) is.1)
 
--- terms over BINARIES are over ORDER
-over_order : (written : Written) (terms : List WrittenTerm) → small.ListsFit written → small.AreOver written.binaries terms → small.AreOver written.order terms
-over_order written terms fit over = λ k d below. All-contains (Contains written.order) written.binaries _ fit.binaries_ordered (over k d below)
+-- terms over known names are over those that hold these
+over_more : (known more : List (List ℕ)) (terms : List WrittenTerm) → small.AreKnown more known → small.AreOver known terms → small.AreOver more terms
+over_more known more terms all over = λ k d below. All-contains (Contains more) known _ all (over k d below)
 
-rows_over_order : (written : Written) (rows : List WrittenRow) → small.ListsFit written → small.AreRowsOver written.binaries rows → small.AreRowsOver written.order rows
-rows_over_order written rows fit over = λ k d below. over_order written _ fit (over k d below)
+rows_over_more : (known more : List (List ℕ)) (rows : List WrittenRow) → small.AreKnown more known → small.AreRowsOver known rows → small.AreRowsOver more rows
+rows_over_more known more rows all over = λ k d below. over_more known more _ all (over k d below)
 
 known_order : (written : Written) (names : List (List ℕ)) → small.ListsFit written → small.AreKnown written.binaries names → small.AreKnown written.order names
 known_order written names fit known = λ k d below. All-contains (Contains written.order) written.binaries _ fit.binaries_ordered (known k d below)
@@ -139,14 +139,15 @@ right_names names written ast tree right =
     let InBinaries : Named → Type 0 = λ named. Has ast.binaries named.name in
     let IsFinite : AstBound → Type 0 = λ bound. bound.value ≢ None in
     let binary : All InBinaries ast.order = names_have names written.binaries written.order ast.binaries ast.order tree.binaries fit.order_known tree.order in
-    let objective = terms_have names written.order ast.order tree.order written.objective ast.objective (over_order written written.objective fit right.objective_known) tree.objective in
-    let rows = rows_have names written.order ast.order tree.order written.rows ast.rows (rows_over_order written written.rows fit right.rows_known) tree.rows in
-    let uncertain = no_names Q (row_uses ast.uncertain) (ap row_uses tree.uncertain) in
+    let objective = terms_have names written.order ast.order tree.order written.objective ast.objective (over_more written.binaries written.order written.objective fit.binaries_ordered right.objective_known) tree.objective in
+    let rows = rows_have names written.order ast.order tree.order written.rows ast.rows (rows_over_more written.binaries written.order written.rows fit.binaries_ordered right.rows_known) tree.rows in
+    let all_ordered = known_order written written.universal fit fit.universal_known in
+    let uncertain = rows_have names written.order ast.order tree.order written.uncertain ast.uncertain (rows_over_more written.universal written.order written.uncertain all_ordered right.uncertain_known) tree.uncertain in
     let bounds = no_names Q (bound_uses ast.bounds) (ap bound_uses tree.bounds) in
     let generals = no_names Q ast.generals tree.generals in
     let binaries = names_have names written.order written.binaries ast.order ast.binaries tree.order fit.binaries_ordered tree.binaries in
     let existential = names_have names written.order written.exists ast.order ast.existential tree.order (known_order written written.exists fit fit.exists_known) tree.existential in
-    let universal = names_have names written.order written.universal ast.order ast.universal tree.order (known_order written written.universal fit fit.universal_known) tree.universal in
+    let universal = names_have names written.order written.universal ast.order ast.universal tree.order all_ordered tree.universal in
     record {
       apart =
           all_named names (Contains written.universal) (λ named. ¬ Has ast.existential named.name)

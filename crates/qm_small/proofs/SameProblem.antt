@@ -11,7 +11,7 @@ use Rattle.qm_small.specs.Small.{IsSmallText}
 use Rattle.qm_small.proofs.SameProblems.{normal_is}
 use Rattle.qm_small.proofs.SameReading.{text_few, text_read}
 
-states : (text : List ℕ) (written : Written) → length text ≤ 65536 → SpellsText text written → NamesFit written → States text (problem_of written)
+states : (text : List ℕ) (written : Written) → length text ≤ 4194304 → SpellsText text written → NamesFit written → States text (problem_of written)
 states text written short spelled right =
     let read = text_read text written spelled right in
     let few = text_few text written (2 ^ 64) (omega arith) spelled in
@@ -20,7 +20,7 @@ states text written short spelled right =
       cut = read.cut;
       ast = read.ast;
       parsed = read.parsed;
-      normal = normal_is (names_of text read.tokens) written read.ast read.tree right few.objective few.rows;
+      normal = normal_is (names_of text read.tokens) written read.ast read.tree right few;
     }
 
 pub small_texts_state : (text : List ℕ) (P : Problem) → IsSmallText text P → States text P

@@ -18,13 +18,13 @@ use Rattle.qm_normal.specs.Normal.{maximised, normal_form, objective_from, objec
 use Rattle.qm_normal.specs.Rows as normal
 use Rattle.qm_normal.specs.Scopes.{scope_fault}
 use Rattle.qm_normal.specs.Variables.{game_order, vars_of, whole_names}
-use Rattle.qm_normal.proofs.FormSteps.{maximised_max, narrow_Some, objective_from-totals, objective_with, problem_of_parts, rows_from-less, rows_from-nil, rows_of-whole, scaled_objective-narrow, unless_None, urows_of-none}
+use Rattle.qm_normal.proofs.FormSteps.{maximised_max, narrow_Some, objective_from-totals, objective_with, problem_of_parts, rows_from-less, rows_from-nil, rows_of-whole, scaled_objective-narrow, unless_None}
 use Rattle.qm_small.specs.Written.{Written, WrittenRow}
 use Rattle.qm_small.specs.Names as small
 use Rattle.qm_small.specs.Problems.{nonzero_from, problem_of, row_of, terms_of, total, var_of}
 use Rattle.qm_small.proofs.SameParts.{Both, NamedIs, RowIs, TermIs}
 use Rattle.qm_small.proofs.SameSums.{denominator_one, narrow_whole, no_constant, row_normal, row_times_one, terms_small, totals_are}
-use Rattle.qm_small.proofs.SameTexts.{HasFewTerms, IsTreeOf}
+use Rattle.qm_small.proofs.SameTexts.{HasFew, HasFewTerms, IsTreeOf}
 use Rattle.qm_small.proofs.SameVariables.{few_in_order, all_binary, all_vars, game_order_is, in_scope, none_continuous, rows_fit, same_length, variables_fit, whole_order}
 
 -- ---- rows
@@ -34,7 +34,7 @@ pub record IsPlain (names : List (List ℕ)) (written : Written) (ast : Ast) : T
   pub vars : vars_of ast ≡ map (var_of written.universal) written.order
   pub order : game_order ast ≡ ast.order
   pub named_are : Both (NamedIs names) written.order ast.order
-  pub few : length written.order ≤ 16
+  pub few : length written.order ≤ 100
 
 row_is : (names : List (List ℕ)) (written : Written) (ast : Ast) → IsPlain names written ast → (one : WrittenRow) (row : AstRow) → RowIs names one row → length one.terms ≤ 2 ^ 64
     → normal.normal_row (vars_of ast) (game_order ast) row.terms row.right ≡ Some (row_of written.order one)
@@ -83,7 +83,7 @@ objective_is names written ast plain sense both few =
 -- ---- the problem
 
 same_problem : (names : List (List ℕ)) (written : Written) (ast : Ast) → IsPlain names written ast → ast.sense ≡ Max → length (whole_names ast) ≡ length written.order
-    → problem_with ast (map (row_of written.order) written.rows) [] (objective_with (terms_of written.order written.objective) (pos 0) 1) ≡ problem_of written
+    → problem_with ast (map (row_of written.order) written.rows) (map (row_of written.order) written.uncertain) (objective_with (terms_of written.order written.objective) (pos 0) 1) ≡ problem_of written
 same_problem names written ast plain sense wholes =
     let vars = plain.vars in
     λ i. record {
@@ -91,23 +91,25 @@ same_problem names written ast plain sense wholes =
       vars = vars i;
       wholes = wholes i;
       rows = map (row_of written.order) written.rows;
-      urows = [];
+      urows = map (row_of written.order) written.uncertain;
       terms = terms_of written.order written.objective;
       constant = pos 0;
       scale = pos 1;
     }
 
-pub normal_is : (names : List (List ℕ)) (written : Written) (ast : Ast) → IsTreeOf names written ast → small.NamesFit written → length written.objective ≤ 2 ^ 64 → All (HasFewTerms (2 ^ 64)) written.rows → normal_form ast ≡ Ok (problem_of written)
-normal_is names written ast tree right few few_rows =
+pub normal_is : (names : List (List ℕ)) (written : Written) (ast : Ast) → IsTreeOf names written ast → small.NamesFit written → HasFew (2 ^ 64) written → normal_form ast ≡ Ok (problem_of written)
+normal_is names written ast tree right few =
     let fit = right.lists in
     let binary = all_binary names written ast tree fit in
     let few_names = few_in_order written fit in
     let plain : IsPlain names written ast = record { vars = all_vars names written ast tree binary; order = game_order_is ast binary; named_are = tree.order; few = few_names } in
     let list = map (row_of written.order) written.rows in
-    let rows = rows_of-whole ast list (all_rows names written ast plain which.Row 0 written.rows ast.rows tree.rows few_rows) (none_continuous ast binary) in
-    let objective = objective_is names written ast plain tree.sense tree.objective few in
+    let ulist = map (row_of written.order) written.uncertain in
+    let rows = rows_of-whole ast list (all_rows names written ast plain which.Row 0 written.rows ast.rows tree.rows few.rows) (none_continuous ast binary) in
+    let urows = all_rows names written ast plain which.Uncertainty 0 written.uncertain ast.uncertain tree.uncertain few.uncertain in
+    let objective = objective_is names written ast plain tree.sense tree.objective few.objective in
     let wholes : length (whole_names ast) ≡ length written.order = ap (length {A = Named}) (whole_order ast binary) ∙ same_length names written.order ast.order tree.order in
-    unless_None (scope_fault ast) _ (in_scope ast binary tree.uncertain)
+    unless_None (scope_fault ast) _ (in_scope names written ast tree right binary)
     ∙ unless_None (variables_fault ast) _ (variables_fit names written ast tree fit binary)
-    ∙ problem_of_parts ast list [] (objective_with (terms_of written.order written.objective) (pos 0) 1) rows (urows_of-none ast tree.uncertain) objective (rows_fit written.order written.rows few_names right.few_rows)
+    ∙ problem_of_parts ast list ulist (objective_with (terms_of written.order written.objective) (pos 0) 1) rows urows objective (rows_fit written.order written.rows written.uncertain few_names right.few_rows)
     ∙ ap (λ (P : Problem). Ok P) (same_problem names written ast plain tree.sense wholes)

@@ -1,5 +1,5 @@
 -- A small text is read by the whole grammar: its tokens, its symbols and its tree.
-use Rattle.std.proofs.Common.{ℕ, ◌≤◌, List, [], length, map, Ok, refl, ap, subst, arith, All}
+use Rattle.std.proofs.Common.{ℕ, ◌≤◌, List, [], length, map, Ok, refl, ap, subst, arith}
 use Rattle.std.proofs.lemmas.List.{length-map}
 use Rattle.std.proofs.lemmas.List.Elements.{All-weaker}
 use Rattle.qm_lex.specs.declared.token.Token.{Token}
@@ -16,7 +16,7 @@ use Rattle.qm_small.proofs.Pieces.{cut, few_pieces, word_of}
 use Rattle.qm_small.proofs.PieceSymbols.{are_meant, are_symbols, symbols_from}
 use Rattle.qm_small.proofs.PieceTokens.{reaches, tokens_from, whole_text}
 use Rattle.qm_small.proofs.SameNames.{no_fault}
-use Rattle.qm_small.proofs.SameTexts.{HasFewTerms, IsTreeOf, few_terms, has_tree}
+use Rattle.qm_small.proofs.SameTexts.{HasFew, HasFewTerms, IsTreeOf, few_terms, has_tree}
 use Rattle.qm_small.proofs.SpelledWords.{spelled_tokens}
 
 few_words : (text : List ℕ) → length (words text) ≤ length text
@@ -61,17 +61,14 @@ pub text_read : (text : List ℕ) (written : Written) → SpellsText text writte
 unfolding SpellsText
 text_read text written spelled right = words_read text written spelled right
 
--- what is written has few terms
-pub record HasFew (n : ℕ) (written : Written) : Type 0 where
-  pub objective : length written.objective ≤ n
-  pub rows : All (HasFewTerms n) written.rows
-
 pub text_few : (text : List ℕ) (written : Written) (n : ℕ) → length text ≤ n → SpellsText text written → HasFew n written
 unfolding SpellsText
 text_few text written n short spelled =
     let counts = few_terms written (words text) spelled in
     let few = few_words text in
+    let weaker = All-weaker (HasFewTerms (length (words text))) (HasFewTerms n) (λ row below. omega arith) in
     record {
-      objective = omega (arith, counts.0);
-      rows = All-weaker (HasFewTerms (length (words text))) (HasFewTerms n) (λ row below. omega arith) written.rows counts.1;
+      objective = omega (arith, counts.objective);
+      rows = weaker written.rows counts.rows;
+      uncertain = weaker written.uncertain counts.uncertain;
     }

@@ -198,8 +198,8 @@ filtered_small names name (w ∷ written) (t ∷ terms) s both =
     let P : Bool → Type 0 = λ b. unsigned_abs (fold ◌+ℤ◌ s (map signed_factor (cond b (w ∷ filter (λ (t : WrittenTerm). bytes_eq t.name name) written) (filter (λ (t : WrittenTerm). bytes_eq t.name name) written)))) ≤ unsigned_abs s + length (w ∷ written) * 2 ^ 32 in
     elim (bytes_eq w.name name) as P [ true ↦ omega arith | false ↦ omega arith ]
 
-pub terms_small : (names universal order : List (List ℕ)) (written : List WrittenTerm) (terms : List AstTerm) → Both (TermIs names) written terms → length written ≤ 2 ^ 64 → length order ≤ 16
-    → terms_size (reach_in_vars (map (var_of universal) order)) (terms_of order written) ≤ 2 ^ 100
+pub terms_small : (names universal order : List (List ℕ)) (written : List WrittenTerm) (terms : List AstTerm) → Both (TermIs names) written terms → length written ≤ 2 ^ 64 → length order ≤ 100
+    → terms_size (reach_in_vars (map (var_of universal) order)) (terms_of order written) ≤ 2 ^ 103
 terms_small names universal order written terms both few few_names =
     let sums : All (λ (k : ℤ). unsigned_abs k ≤ 2 ^ 96) (map (total written) order) =
     All-map (λ (k : ℤ). unsigned_abs k ≤ 2 ^ 96) (total written) order (λ k d below. omega (arith, filtered_small names (get_or order k d) written terms (pos 0) both)) in
@@ -221,7 +221,7 @@ narrow_whole vars ks right small =
     ∙ ap (λ (r : Row). cond (normal.is_narrow vars 1 r) (Some r) None) row
     ∙ cond-true (normal.is_narrow vars 1 (whole_row ks right)) (Some (whole_row ks right)) None (narrow_test 1 _ (omega arith) small)
 
-pub row_normal : (names universal order : List (List ℕ)) (list : List Named) (written : WrittenRow) (row : AstRow) → Both (NamedIs names) order list → RowIs names written row → length written.terms ≤ 2 ^ 64 → length order ≤ 16
+pub row_normal : (names universal order : List (List ℕ)) (list : List Named) (written : WrittenRow) (row : AstRow) → Both (NamedIs names) order list → RowIs names written row → length written.terms ≤ 2 ^ 64 → length order ≤ 100
     → normal.normal_row (map (var_of universal) order) list row.terms row.right ≡ Some (row_of order written)
 row_normal names universal order list written row both is few few_names =
     let vars = map (var_of universal) order in

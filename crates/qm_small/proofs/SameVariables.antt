@@ -30,11 +30,11 @@ use Rattle.qm_small.specs.Names as small
 use Rattle.qm_small.specs.Problems.{nonzero_from, row_of, stands_in, total, var_of as small_var}
 use Rattle.qm_small.proofs.Counting.{length-le_among}
 use Rattle.qm_small.proofs.SameParts.{Both, NamedIs}
-use Rattle.qm_small.proofs.SameNames.{has_is, names_have}
+use Rattle.qm_small.proofs.SameNames.{has_is, names_have, rows_have}
 use Rattle.qm_small.proofs.SameTexts.{IsTreeOf}
 
--- lists that fit have at most 16 names in ORDER too
-pub few_in_order : (written : Written) → small.ListsFit written → length written.order ≤ 16
+-- lists that fit have at most 100 names in ORDER too
+pub few_in_order : (written : Written) → small.ListsFit written → length written.order ≤ 100
 few_in_order written fit =
     omega (arith, fit.few, length-le_among bytes_eq bytes_eq-Decides written.binaries written.order [] fit.order_once fit.order_known)
 
@@ -147,14 +147,17 @@ not_told : (kind : List ℕ → Place → NormalFault) (ast : Ast) (found : Opti
 unfolding told
 not_told kind ast found next none = ap (λ (o : Option Named). told kind ast o next) none
 
-no_uses : (test : Named → Bool) (list : List Named) → list ≡ [] → first_such test list ≡ None
-no_uses test list none = ap (first_such test) none ∙ none_such test [] (All-nil (λ (x : Named). test x ≡ false))
+-- each name in the uncertainty rows is universal
+all_universal : (names : List (List ℕ)) (written : Written) (ast : Ast) → IsTreeOf names written ast → small.NamesFit written → All (λ named. not (is_universal ast named.name) ≡ false) (row_uses ast.uncertain)
+all_universal names written ast tree right =
+    let over = rows_have names written.universal ast.universal tree.universal written.uncertain ast.uncertain right.uncertain_known tree.uncertain in
+    λ k d below. not_from_true _ (over k d below)
 
-pub in_scope : (ast : Ast) → All (IsBinary ast) ast.order → ast.uncertain ≡ [] → scope_fault ast ≡ None
-in_scope ast all uncertain =
+pub in_scope : (names : List (List ℕ)) (written : Written) (ast : Ast) → IsTreeOf names written ast → small.NamesFit written → All (IsBinary ast) ast.order → scope_fault ast ≡ None
+in_scope names written ast tree right all =
     not_told fault.ContinuousUniversal ast (continuous_universal ast) _ (none_such (λ named. not (is_whole ast named.name) && is_universal ast named.name) ast.order (λ k d below. not_first _ _ (whole_if ast _ (all k d below))))
     ∙ not_told fault.ContinuousEarly ast (continuous_early ast) _ (not_followed ast ast.order all)
-    ∙ not_told fault.ExistsInUncertainty ast (exists_in_uncertainty ast) None (no_uses (λ named. not (is_universal ast named.name)) (row_uses ast.uncertain) (ap row_uses uncertain))
+    ∙ not_told fault.ExistsInUncertainty ast (exists_in_uncertainty ast) None (none_such (λ named. not (is_universal ast named.name)) (row_uses ast.uncertain) (all_universal names written ast tree right))
 
 -- ---- limits
 
@@ -181,12 +184,12 @@ no_domain : (ast : Ast) (found : Option Named) → found ≡ None → domain_fau
 unfolding domain_fault
 no_domain ast found none = ap (domain_fault ast) none
 
-few_test : (n : ℕ) → n ≤ 16 → leb n 1000 ≡ true
+few_test : (n : ℕ) → n ≤ 100 → leb n 1000 ≡ true
 few_test n h = grind (arith, nat_tests)
 
 pub variables_fit : (names : List (List ℕ)) (written : Written) (ast : Ast) → IsTreeOf names written ast → small.ListsFit written → All (IsBinary ast) ast.order → variables_fault ast ≡ None
 variables_fit names written ast tree fit all =
-    let few : length ast.order ≤ 16 = omega (arith, same_length names written.order ast.order tree.order, few_in_order written fit) in
+    let few : length ast.order ≤ 100 = omega (arith, same_length names written.order ast.order tree.order, few_in_order written fit) in
     cond-true (leb (length ast.order) 1000) (domain_fault ast (large_domain ast)) _ (few_test (length ast.order) few)
     ∙ no_domain ast (large_domain ast) (none_such (λ named. not (fits_domain (var_of ast named))) ast.order (fits names written ast tree written.order ast.order all tree.order))
 
@@ -198,7 +201,7 @@ few_nonzero n (k ∷ ks) =
     let others = few_nonzero (suc n) ks in
     elim (int_eq k (pos 0)) as (λ b. length (cond b (nonzero_from (suc n) ks) (record { var = n; coef = k } ∷ nonzero_from (suc n) ks)) ≤ length (k ∷ ks)) [ true ↦ omega arith | false ↦ omega arith ]
 
-few_terms : (order : List (List ℕ)) (rows : List WrittenRow) → length order ≤ 16 → terms_in (map (row_of order) rows) ≤ length rows * 16
+few_terms : (order : List (List ℕ)) (rows : List WrittenRow) → length order ≤ 100 → terms_in (map (row_of order) rows) ≤ length rows * 100
 few_terms order [] few = omega arith
 few_terms order (row ∷ rows) few =
     let here = few_nonzero 0 (map (total row.terms) order) in
@@ -208,9 +211,11 @@ few_terms order (row ∷ rows) few =
 small_count : (n most : ℕ) → n ≤ most → not (leb n most) ≡ false
 small_count n most h = grind (arith, nat_tests)
 
-pub rows_fit : (order : List (List ℕ)) (rows : List WrittenRow) → length order ≤ 16 → length rows ≤ 2000 → rows_fault (map (row_of order) rows) [] ≡ None
-rows_fit order rows few few_rows =
+pub rows_fit : (order : List (List ℕ)) (rows urows : List WrittenRow) → length order ≤ 100 → length rows + length urows ≤ 2000 → rows_fault (map (row_of order) rows) (map (row_of order) urows) ≡ None
+rows_fit order rows urows few few_rows =
     let list = map (row_of order) rows in
-    let count : length list + 0 ≤ 2000 = omega (arith, length-map rows (row_of order)) in
-    let terms : terms_in list + 0 ≤ 200000 = omega (arith, few_terms order rows few) in
-    cond-false (not (leb (length list + 0) 2000)) _ _ (small_count (length list + 0) 2000 count) ∙ cond-false (not (leb (terms_in list + 0) 200000)) _ None (small_count (terms_in list + 0) 200000 terms)
+    let ulist = map (row_of order) urows in
+    let count : length list + length ulist ≤ 2000 = omega (arith, length-map rows (row_of order), length-map urows (row_of order)) in
+    let terms : terms_in list + terms_in ulist ≤ 200000 = omega (arith, few_terms order rows few, few_terms order urows few) in
+    cond-false (not (leb (length list + length ulist) 2000)) _ _ (small_count (length list + length ulist) 2000 count)
+    ∙ cond-false (not (leb (terms_in list + terms_in ulist) 200000)) _ None (small_count (terms_in list + terms_in ulist) 200000 terms)

@@ -3,10 +3,10 @@ use Rattle.std.proofs.Common.{◌≡◌, ℕ, Bool, true, false, List, [], ◌�
 use Rattle.std.specs.Prelude.{codes}
 use Rattle.qm_lex.specs.declared.token.Keyword.TheVariants as keyword
 use Rattle.qm_small.specs.Written.{Word, Written, WrittenRow, WrittenTerm}
-use Rattle.qm_small.specs.Grammar.{Each, Factor, Literal, Name, Names, NewLine, Number, OptionalNames, Right, Row, Sign, SmallText, Term, Terms}
+use Rattle.qm_small.specs.Grammar.{Each, Factor, Literal, Name, Names, NewLine, Number, OptionalNames, Right, Row, Rows, Sign, SmallText, Term, Terms, UncertainRows}
 use Rattle.qm_small.specs.Spelling.{is_identifier, is_name}
 use Rattle.qm_small.proofs.PieceTokens.{AreTokenWords}
-use Rattle.qm_small.proofs.WordTokens.{IsTokenWord, heading_token, kind_of-all, kind_of-binaries, kind_of-end, kind_of-exists, kind_of-maximize, kind_of-order, kind_of-subject, kind_of-to, minus_token, most_token, name_token, number_token, plus_token}
+use Rattle.qm_small.proofs.WordTokens.{IsTokenWord, heading_token, kind_of-all, kind_of-binaries, kind_of-end, kind_of-exists, kind_of-maximize, kind_of-order, kind_of-subject, kind_of-to, kind_of-uncertainty, minus_token, most_token, name_token, number_token, plus_token}
 
 -- the words of a part are tokens where those behind it are
 abbrev Tokens : List Word → List Word → Type 0
@@ -101,18 +101,29 @@ end : IsTokenWord (codes "END")
 unfolding is_identifier
 end = heading_token (codes "END") keyword.End refl kind_of-end
 
+uncertainty : IsTokenWord (codes "UNCERTAINTY")
+unfolding is_identifier
+uncertainty = heading_token (codes "UNCERTAINTY") keyword.Uncertainty refl kind_of-uncertainty
+
+rows : (written : List WrittenRow) (ws rest : List Word) → Rows written ws rest → Tokens ws rest
+rows written ws rest p behind =
+    literal (codes "SUBJECT") subject ws p.0 p.1 (literal (codes "TO") to p.0 p.2.0 p.2.1 (each Row row written p.2.0 rest p.2.2 behind))
+
+uncertain_rows : (written : List WrittenRow) (ws rest : List Word) → UncertainRows written ws rest → Tokens ws rest
+uncertain_rows written ws rest (inl p) behind = literal (codes "UNCERTAINTY") uncertainty ws p.0 p.1 (rows written p.0 rest p.2 behind)
+uncertain_rows written ws rest (inr none) behind = same_words ws rest none.1 behind
+
 -- the words of a small text are tokens
 pub spelled_tokens : (written : Written) (ws : List Word) → SmallText written ws [] → AreTokenWords ws
 spelled_tokens written ws p =
-    let rows = p.2 in
-    let lists = rows.2 in
+    let uncertain = p.2.2 in
+    let lists = uncertain.2 in
     literal (codes "MAXIMIZE") maximize ws p.1.0 p.1.1
     (terms written.objective p.1.0 p.0 p.1.2
-    (literal (codes "SUBJECT") subject p.0 rows.1.0 rows.1.1
-    (literal (codes "TO") to rows.1.0 rows.1.2.0 rows.1.2.1
-    (each Row row written.rows rows.1.2.0 rows.0 rows.1.2.2
-    (names (codes "BINARIES") binaries written.binaries rows.0 lists.0 lists.1
+    (rows written.rows p.0 p.2.0 p.2.1
+    (uncertain_rows written.uncertain p.2.0 uncertain.0 uncertain.1
+    (names (codes "BINARIES") binaries written.binaries uncertain.0 lists.0 lists.1
     (optional_names (codes "EXISTS") exists written.exists lists.0 lists.2.0 lists.2.1
     (optional_names (codes "ALL") all written.universal lists.2.0 lists.2.2.0 lists.2.2.1
     (names (codes "ORDER") order written.order lists.2.2.0 lists.2.2.2.0 lists.2.2.2.1
-    (literal (codes "END") end lists.2.2.2.0 [] lists.2.2.2.2 tt)))))))))
+    (literal (codes "END") end lists.2.2.2.0 [] lists.2.2.2.2 tt))))))))

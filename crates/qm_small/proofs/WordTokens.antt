@@ -258,6 +258,10 @@ pub kind_of-to : kind_of (codes "TO") ≡ Meaning keyword.To
 unfolding kind_of is_number kind_of_name meanings
 kind_of-to = refl
 
+pub kind_of-uncertainty : kind_of (codes "UNCERTAINTY") ≡ Meaning keyword.Uncertainty
+unfolding kind_of is_number kind_of_name meanings
+kind_of-uncertainty = refl
+
 pub kind_of-binaries : kind_of (codes "BINARIES") ≡ Meaning keyword.Binaries
 unfolding kind_of is_number kind_of_name meanings
 kind_of-binaries = refl

@@ -15,10 +15,14 @@ use Rattle.qm_small.specs.Small.{IsSmallText}
 use Rattle.qm_small.specs.Spelling.{is_identifier, is_name, is_number, is_reserved, reserved, value_of}
 use Rattle.qm_small.specs.Written.{Written, WrittenRow, WrittenTerm}
 
--- MAXIMIZE x - 2 y; SUBJECT TO; x + y <= 1; BINARIES x y; ALL y; ORDER y x END
+-- MAXIMIZE x - 2 y; SUBJECT TO; x + y <= 1; UNCERTAINTY SUBJECT TO; y <= 1; BINARIES x y; ALL y; ORDER y x END
+abbrev uncertain_text : List ℕ
+uncertain_text =
+    codes "UNCERTAINTY SUBJECT TO" ++ (10 ∷ (codes "y <= 1" ++ (10 ∷ (codes "BINARIES x y" ++ (10 ∷ (codes "ALL y" ++ (10 ∷ codes "ORDER y x END")))))))
+
 abbrev text : List ℕ
 text =
-    codes "MAXIMIZE x - 2 y" ++ (10 ∷ (codes "SUBJECT TO" ++ (10 ∷ (codes "x + y <= 1" ++ (10 ∷ (codes "BINARIES x y" ++ (10 ∷ (codes "ALL y" ++ (10 ∷ codes "ORDER y x END")))))))))
+    codes "MAXIMIZE x - 2 y" ++ (10 ∷ (codes "SUBJECT TO" ++ (10 ∷ (codes "x + y <= 1" ++ (10 ∷ uncertain_text)))))
 
 abbrev term : List ℕ → WrittenTerm
 term name = record { negative = false; factor = 1; name = name }
@@ -26,10 +30,14 @@ term name = record { negative = false; factor = 1; name = name }
 abbrev row : WrittenRow
 row = record { terms = term (codes "x") ∷ term (codes "y") ∷ []; right = pos 1 }
 
+abbrev uncertain_row : WrittenRow
+uncertain_row = record { terms = term (codes "y") ∷ []; right = pos 1 }
+
 abbrev written : Written
 written = record {
   objective = term (codes "x") ∷ record { negative = true; factor = 2; name = codes "y" } ∷ [];
   rows = row ∷ [];
+  uncertain = uncertain_row ∷ [];
   binaries = codes "x" ∷ codes "y" ∷ [];
   exists = [];
   universal = codes "y" ∷ [];
@@ -38,6 +46,9 @@ written = record {
 
 some_terms : row.terms ≢ []
 some_terms e = absurd cc
+
+some_uncertain : uncertain_row.terms ≢ []
+some_uncertain e = absurd cc
 
 spelled : SpellsText text written
 unfolding SpellsText is_name is_identifier is_reserved reserved is_number value_of
@@ -68,11 +79,27 @@ spelled = (
     ),
     (
       _,
-      (_, (refl, refl), (_, (refl, refl, refl), (_, (refl, refl, refl), refl))),
+      inl (
+        _,
+        (refl, refl),
+        (
+          _,
+          (refl, refl),
+          (
+            _,
+            (refl, refl),
+            (_, (some_uncertain, (_, (_, (_, inr refl, (_, inr (refl, refl), (refl, refl, refl))), refl), (_, (refl, refl), (_, (1, inl (refl, ((refl, refl), refl))), (refl, refl))))), refl),
+          ),
+        ),
+      ),
       (
         _,
-        inr (refl, refl),
-        (_, inl (_, (refl, refl), (_, (refl, refl, refl), refl)), (_, (_, (refl, refl), (_, (refl, refl, refl), (_, (refl, refl, refl), refl))), (refl, refl))),
+        (_, (refl, refl), (_, (refl, refl, refl), (_, (refl, refl, refl), refl))),
+        (
+          _,
+          inr (refl, refl),
+          (_, inl (_, (refl, refl), (_, (refl, refl, refl), refl)), (_, (_, (refl, refl), (_, (refl, refl, refl), (_, (refl, refl, refl), refl))), (refl, refl))),
+        ),
       ),
     ),
   ),
@@ -124,14 +151,16 @@ names_right =
     let x = first_of_two (codes "x") (codes "y") in
     let y = second_of_two (codes "x") (codes "y") in
     let P : WrittenRow → Type 0 = λ row. AreOver written.binaries row.terms in
+    let Q : WrittenRow → Type 0 = λ row. AreOver written.universal row.terms in
     record {
       lists = lists_fit;
       objective_known = terms_known _ _ x y;
       rows_known = All-cons P row [] (terms_known _ _ x y) (All-nil P);
+      uncertain_known = All-cons Q uncertain_row [] (All-cons (λ (t : WrittenTerm). Contains written.universal t.name) (term (codes "y")) [] (0, omega arith, refl) (All-nil (λ (t : WrittenTerm). Contains written.universal t.name))) (All-nil Q);
       few_rows = omega arith;
     }
 
--- y is the first variable, and the universal player's: maximise -2 y + x with y + x <= 1
+-- y is the first variable, and the universal player's: maximise -2 y + x with y + x <= 1, where y <= 1
 abbrev problem : Problem
 problem = record {
   sense = Max;
@@ -140,7 +169,7 @@ problem = record {
       ∷ record { name = codes "x"; player = Exists; whole = true; low = pos 0; high = pos 1 } ∷ [];
   wholes = 2;
   rows = record { terms = record { var = 0; coef = pos 1 } ∷ record { var = 1; coef = pos 1 } ∷ []; right = pos 1 } ∷ [];
-  urows = [];
+  urows = record { terms = record { var = 0; coef = pos 1 } ∷ []; right = pos 1 } ∷ [];
   terms = record { var = 0; coef = neg_ℤ (pos 2) } ∷ record { var = 1; coef = pos 1 } ∷ [];
   constant = pos 0;
   scale = pos 1;

@@ -86,6 +86,10 @@ Objective terms = Literal (codes "MAXIMIZE") then Terms terms
 abbrev pub Rows : List WrittenRow → Part
 Rows rows = Literal (codes "SUBJECT") then Literal (codes "TO") then Each Row rows
 
+-- rows below a heading of their own, which may be left out if there are none
+abbrev pub UncertainRows : List WrittenRow → Part
+UncertainRows rows = Either (Literal (codes "UNCERTAINTY") then Rows rows) (NothingIf (rows ≡ []))
+
 -- names below their heading
 abbrev pub Names : List ℕ → List (List ℕ) → Part
 Names heading names = Literal heading then Each Name names
@@ -99,6 +103,7 @@ abbrev pub SmallText : Written → Part
 SmallText written =
     Objective written.objective
     then Rows written.rows
+    then UncertainRows written.uncertain
     then Names (codes "BINARIES") written.binaries
     then OptionalNames (codes "EXISTS") written.exists
     then OptionalNames (codes "ALL") written.universal

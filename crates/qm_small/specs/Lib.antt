@@ -5,3 +5,5 @@ pub mod Grammar
 pub mod Names
 pub mod Problems
 pub mod Small
+pub mod Lines
+pub mod Writable

@@ -46,14 +46,14 @@ var_of universal name = record {
   high = pos 1;
 }
 
--- the variables and the rows of the text: the variables in the order of ORDER, the rows in their own
+-- the variables and the rows of the text: the variables in the order of ORDER, the rows of both kinds in their own
 abbrev pub problem_of : Written → Problem
 problem_of written = record {
   sense = Max;
   vars = map (var_of written.universal) written.order;
   wholes = length written.order;
   rows = map (row_of written.order) written.rows;
-  urows = [];
+  urows = map (row_of written.order) written.uncertain;
   terms = terms_of written.order written.objective;
   constant = pos 0;
   scale = pos 1;

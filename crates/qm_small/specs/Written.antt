@@ -21,6 +21,7 @@ pub record WrittenRow : Type 0 where
 pub record Written : Type 0 where
   pub objective : List WrittenTerm
   pub rows : List WrittenRow
+  pub uncertain : List WrittenRow
   pub binaries : List (List ℕ)
   pub exists : List (List ℕ)
   pub universal : List (List ℕ)

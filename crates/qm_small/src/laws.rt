@@ -1,7 +1,11 @@
 ghost use Rattle.std.specs.Prelude.{◌≡◌, ℕ, List};
 ghost use Rattle.qm_model.specs.declared.game.Problem.{Problem};
 ghost use Rattle.qm_normal.specs.Stated.{States};
+ghost use Rattle.qm_small.specs.Lines.{text_of};
+ghost use Rattle.qm_small.specs.Problems.{problem_of};
 ghost use Rattle.qm_small.specs.Small.{IsSmallText};
+ghost use Rattle.qm_small.specs.Writable.{IsWritable};
+ghost use Rattle.qm_small.specs.Written.{Written};
 
 use qm_normal::one_problem_a_text;
 
@@ -16,3 +20,8 @@ pub fn one_problem()
 {
     one_problem_a_text();
 }
+
+/// What can be written is said by a small text: its lines, with one space between words.
+pub fn written_texts_are_small()
+    ensures { (written : Written) → IsWritable written → IsSmallText (text_of written) (problem_of written) }
+{}

@@ -1,0 +1,6 @@
+use Rattle.qm_gen.specs.Generated.{row_terms}
+use Rattle.qm_gen.proofs.Drawn.{Drew}
+use Rattle.qm_gen.proofs.terms.row_terms.Given as goal
+
+abbrev pub invariant-loop-place : goal.invariant-loop-place
+invariant-loop-place l = Drew row_terms l.fn.draws.state l.place l.terms l.draws.state
