@@ -16,10 +16,14 @@ mod answer;
 mod answers;
 mod choices;
 mod ending;
+mod fault;
 mod leaf;
+mod leaf_run;
 mod legality;
+mod mixed;
 mod order;
 mod outcome;
 mod walk;
 
 pub use ending::solve;
+pub use fault::{Leave, SearchFault};

@@ -18,10 +18,10 @@ mod run_laws;
 mod solve;
 mod stuck;
 
-pub use answers::{LeavePlace, LpEnd, LpFault, RunLeaves};
+pub use answers::{LeavePlace, LpEnd, LpFault, LpRun, RunLeaves};
 pub use end_laws::{
     best_ends_are_best, closing_entries_are_entries, ends_of_runs_are_right, void_ends_are_void,
 };
 pub use exact_laws::runs_are_exact;
 pub use run_laws::{runs_are_short, runs_end, runs_have_one_answer, runs_keep_tableaus_good};
-pub use solve::solve_lp;
+pub use solve::{run_lp, solve_lp};
