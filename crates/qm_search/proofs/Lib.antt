@@ -8,3 +8,5 @@ pub mod RightPicks
 pub mod WholeBound
 pub mod DeadRows
 pub mod SetLeaves
+pub mod EndBoxes
+pub mod LeafEnds

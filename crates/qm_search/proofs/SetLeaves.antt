@@ -14,7 +14,7 @@ use Rattle.qm_trees.specs.declared.policy.Policy.TheVariants.{rolls-Leaf}
 use Rattle.qm_trees.specs.declared.policy.Below.TheViews.{out-roll-Policy}
 use Rattle.qm_trees.specs.declared.policy.Below.TheOpen as node
 use Rattle.qm_trees.specs.declared.refutation.Refute.{Refute, Close}
-use Rattle.qm_trees.specs.Entries.{IsPositive, Weighted}
+use Rattle.qm_trees.specs.Entries.{Weighted}
 use Rattle.qm_trees.specs.Evaluation.{value_of}
 use Rattle.qm_trees.specs.Leaves.{leaf_passes}
 use Rattle.qm_trees.specs.PolicyJudgement.{Layer}
@@ -29,7 +29,7 @@ use Rattle.qm_search.proofs.WholeBound.{bound_is_objective}
 use Rattle.qm_search.proofs.DeadRows.{refutes_by}
 
 -- a policy that ends at once
-ends_at_once : (point : List Fraction) → out-Policy (Leaf point) ≡ node.Leaf point
+pub ends_at_once : (point : List Fraction) → out-Policy (Leaf point) ≡ node.Leaf point
 ends_at_once point = ap out-Policy (sym (rolls-Leaf point)) ∙ out-roll-Policy (node.Leaf point)
 
 module _ (P : Problem) (depth : ℕ) (bx : List Range) (sound : IsSound P) (box : IsBox P.vars bx) (b : Fraction) (is : value_of P true [] bx ≡ Ok (Bound b)) where
@@ -51,4 +51,4 @@ module _ (P : Problem) (depth : ℕ) (bx : List Range) (sound : IsSound P) (box 
   -- the objective alone refutes anything above its bound
   pub objective_refutes : (tree : Refute) → tree ≡ Close (record { objective = true; entries = [] }) → Refutes P [] depth bx (Above b) tree
   objective_refutes tree closed =
-      refutes_by P depth bx (Above b) (record { objective = true; entries = [] }) tree sound bound_den (All-nil IsPositive) (All-nil _) (objective_closes P bx b is) closed
+      refutes_by P depth bx (Above b) (record { objective = true; entries = [] }) tree sound bound_den tt (All-nil _) (objective_closes P bx b is) closed

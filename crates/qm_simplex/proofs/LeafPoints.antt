@@ -1,5 +1,5 @@
 -- A point of the relaxation over a box in which all whole variables are set is a right leaf at its value.
-use Rattle.std.proofs.Common.{◌≡◌, refl, sym, ap, subst, ℕ, zero, suc, ◌+◌, ◌-◌, ◌<◌, ◌≤◌, Bool, true, false, List, [], ◌∷◌, length, get_or, drop, take, map, arith, All, ℤ, pos, negsuc, if◌then◌else◌}
+use Rattle.std.proofs.Common.{◌≡◌, ◌∙◌, refl, sym, ap, subst, ℕ, zero, suc, ◌+◌, ◌-◌, ◌<◌, ◌≤◌, Bool, true, false, List, [], ◌∷◌, length, get_or, drop, take, map, arith, All, ℤ, pos, negsuc, if◌then◌else◌}
 use Rattle.std.specs.Prelude.{nat_lt, slice_index_or}
 use Rattle.std.proofs.lemmas.Int.{ints}
 use Rattle.std.proofs.lemmas.Bool.Decides.{Decides-ltb, nat_tests}
@@ -63,7 +63,7 @@ in_bounds : (vars : List Var) (ys : List Fraction) → IsInBox (whole_box_of var
 in_bounds [] [] h = tt
 in_bounds [] (y ∷ ys) h = absurd h
 in_bounds (x ∷ vars) [] h = absurd h
-in_bounds (x ∷ vars) (y ∷ ys) h = (h.0, (h.1.0, (h.1.1, in_bounds vars ys h.2)))
+in_bounds (x ∷ vars) (y ∷ ys) h = (h.0, h.1.0, h.1.1, in_bounds vars ys h.2)
 
 -- ---- ends of ranges of one value
 
@@ -108,7 +108,9 @@ module _ (P : Problem) (bx : List Range) (xs : List Fraction) (inside : IsInBox 
     continuous_is : (t : Term) → P.wholes ≤ t.var → slice_index_or y (t.var - P.wholes) (whole (pos 0)) ≡ entry_of xs t.var
     continuous_is t from =
         let at : P.wholes + (t.var - P.wholes) ≡ t.var = omega (arith, from) in
-        rw at at get_or-drop P.wholes xs (t.var - P.wholes) (whole (pos 0))
+        let is : get_or (drop P.wholes xs) (t.var - P.wholes) (whole (pos 0)) ≡ get_or xs (P.wholes + (t.var - P.wholes)) (whole (pos 0)) =
+        get_or-drop P.wholes xs (t.var - P.wholes) (whole (pos 0)) in
+        is ∙ ap (λ (i : ℕ). get_or xs i (whole (pos 0))) at
 
     -- a term's variable has its value of the point
     value_same : (t : Term) → IsSame (value_at end_by P bx y t) (entry_of xs t.var)

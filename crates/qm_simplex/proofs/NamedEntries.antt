@@ -39,7 +39,7 @@ module _ (P : Problem) (cuts : List Row) where
       test true = All-nil IsNamed
       test false = All-cons IsNamed (record { row = row; by = by }) [] there (All-nil IsNamed)
 
-  name : ℕ → RowId
+  abbrev name : ℕ → RowId
   name n = slack_name (length P.rows) (length P.urows) n
 
   name_there : (d : Row) (n : ℕ) → n < length (slack_rows P cuts) → IsSome (row_named P cuts (name n))

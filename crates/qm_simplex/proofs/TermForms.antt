@@ -1,11 +1,13 @@
 -- A form over all variables comes to the sum over its terms.
 use Rattle.std.proofs.Common.{◌≡◌, refl, ℕ, ◌<◌, Bool, true, false, List, [], ◌∷◌, arith, All, ℤ, pos, ◌+ℤ◌, if◌then◌else◌}
 use Rattle.std.specs.Prelude.{◌==◌}
-use Rattle.std.proofs.lemmas.Int.{ints}
 use Rattle.qm_math.specs.Fraction.{Fraction, HasPositiveDen, IsSame, whole}
 use Rattle.qm_math.specs.Arithmetic.{product_of, sum_of}
 use Rattle.qm_math.specs.Totals.{total_of}
-use Rattle.qm_math.proofs.FractionLaws.{product_of-same, product_of_den, same_refl, same_trans, sum_of-same, sum_of_den, whole_den}
+use Rattle.qm_math.proofs.FractionLaws.{product_of-same, product_of_den, same_refl, same_sym, same_trans, sum_of-same, sum_of-whole, sum_of_den, whole_den}
+use Rattle.qm_math.proofs.FractionRing.{same_by_ring}
+use Rattle.qm_math.proofs.Polynomials.{number, ◌⊕◌, ◌⊗◌}
+use Rattle.qm_math.proofs.Ring.{x0, x1}
 use Rattle.qm_math.proofs.Totals.{total_of_den}
 use Rattle.qm_model.specs.declared.row.Term.{Term}
 use Rattle.qm_model.specs.Linear.{coefficient}
@@ -21,8 +23,10 @@ more_at : (k c : ℤ) (var n : ℕ) → IsSame (whole (if var == n then k +ℤ c
 more_at k c var n = by_test (var == n)
   where
     by_test : (b : Bool) → IsSame (whole (if b then k +ℤ c else c)) (sum_of (product_of (whole k) (if b then whole (pos 1) else whole (pos 0))) (whole c))
-    by_test true = omega (arith, ints)
-    by_test false = omega (arith, ints)
+    by_test true =
+        same_trans (whole (k +ℤ c)) (sum_of (whole k) (whole c)) (sum_of (product_of (whole k) (whole (pos 1))) (whole c)) (sum_of_den (whole k) (whole c) (whole_den k) (whole_den c))
+        (same_sym (sum_of (whole k) (whole c)) (whole (k +ℤ c)) (sum_of-whole k c)) (same_by_ring (whole k ∷ whole c ∷ []) (x0 ⊕ x1) (x0 ⊗ number (pos 1) ⊕ x1) refl)
+    by_test false = same_by_ring (whole k ∷ whole c ∷ []) x1 (x0 ⊗ number (pos 0) ⊕ x1) refl
 
 -- what the terms come to
 abbrev pub terms_at : List Fraction → List Term → Fraction
