@@ -24,7 +24,7 @@ use Rattle.qm_top.specs.declared.command.Command.{Command}
 use Rattle.qm_top.specs.declared.command.Command.TheVariants.{Solve}
 use Rattle.qm_top.specs.Words.{Asks}
 use Rattle.qm_top.specs.Lines.{line}
-use Rattle.qm_top.specs.Completeness.{IsComplete, IsDue, IsNoMemory, IsReport}
+use Rattle.qm_top.specs.Completeness.{IsDueTo, IsDue, IsNoMemory, IsReport}
 use Rattle.qm_top.specs.Answers.{Claims, IsAnswer, Reading, Solves, SolvesProblem, SolvesText, misused, solved, whole_text, longer, failed, no_room, claimed, left, stated, refused, out_of_memory}
 use Rattle.qm_top.specs.declared.report.Report.{Report}
 use Rattle.qm_top.specs.FaultLines.{TellsNormal}
@@ -115,7 +115,7 @@ bytes_answered law read status text bytes told still solves = record {
   refused = λ other why short refusal. refused_text_answered law bytes other status why text refusal (text_told read status text bytes told short still solves);
 }
 
-complete_answer : OneDecimal → (words : List (List ℕ)) (read : Reading) (status : ℕ) (text : List ℕ) → IsAnswer words read status text → IsComplete words read status text
+complete_answer : OneDecimal → (words : List (List ℕ)) (read : Reading) (status : ℕ) (text : List ℕ) → IsAnswer words read status text → IsDueTo words read status text
 complete_answer law words read status text (misused none unread is line) =
     record { misused = λ no. (is, line); solve = λ bytes asks told still. absurd (none Solve asks) }
 complete_answer law words read status text (solved asks solves) =
@@ -124,7 +124,7 @@ complete_answer law words read status text (solved asks solves) =
 -- the sink took the text of a report
 pub complete_report : OneDecimal → (before after : Option (List ℕ)) (words : List (List ℕ)) (read : Reading) (status due : ℕ) (text told : List ℕ)
     → IsAnswer words read due told → status ≡ due → text ≡ told → Appends before after text
-    → (taken : List ℕ) × Appends before after taken × IsComplete words read status taken
+    → (taken : List ℕ) × Appends before after taken × IsDueTo words read status taken
 complete_report law before after words read status due text told answer is same taken =
     let with_text : IsAnswer words read due text = subst (λ t. IsAnswer words read due t) (sym same) answer in
     (text, taken, complete_answer law words read status text (subst (λ n. IsAnswer words read n text) (sym is) with_text))

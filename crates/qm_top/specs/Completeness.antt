@@ -28,6 +28,6 @@ pub record IsDue (bytes : List ℕ) (status : ℕ) (text : List ℕ) : Type 0 wh
   pub refused : (due : ℕ) (told : List ℕ) → length bytes ≤ 4194304 → Refuses bytes due told → IsReport due told status text ⊎ IsNoMemory status text
 
 -- the same by the words; where they are no form, the source tells nothing about the answer
-pub record IsComplete (words : List (List ℕ)) (problem : Reading) (status : ℕ) (text : List ℕ) : Type 0 where
+pub record IsDueTo (words : List (List ℕ)) (problem : Reading) (status : ℕ) (text : List ℕ) : Type 0 where
   pub misused : ((command : Command) → ¬ Asks command words) → IsReport 2 (line (codes "usage: qyas solve FILE")) status text
   pub solve : (bytes : List ℕ) → Asks Solve words → problem.before ≡ Some bytes → ¬ Rose problem.faults_before problem.faults_after → IsDue bytes status text
