@@ -22,6 +22,6 @@ pub use certificate::Certificate;
 pub use endings::{a_passing_certificate_tells_the_ending, passing_values_are_in_lowest_terms};
 pub use laws::{
     different_certificates_have_different_texts,
-    different_well_formed_certificates_have_different_texts,
+    different_well_formed_certificates_have_different_texts, passing_certificates_are_well_formed,
 };
 pub use writer::write;
