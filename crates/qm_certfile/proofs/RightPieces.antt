@@ -137,7 +137,7 @@ module _ (P : Problem) (sound : IsSound P) where
   policy_end v bx (answer.Choose value below) right = absurd right
   policy_end v bx (answer.Answer parts) right = absurd right
 
-  pub few_wholes : length (whole_vars P) < 2 ^ 32
+  pub few_wholes : 0 + length (whole_vars P) < 2 ^ 32
   few_wholes = omega (arith, sound.few_vars, length-take P.wholes P.vars)
 
   module _ (x : Var) (depth : ℕ) (IsRight : List Range → Policy → Type 0) (below : (bx : List Range) (policy : Policy) → AreNear bx → IsRight bx policy → AreOfType (policy_pieces policy)) where
