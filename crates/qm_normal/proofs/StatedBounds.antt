@@ -1,5 +1,5 @@
 -- The problem that a text states is in order, and the bounds of its variables are near 0.
-use Rattle.std.proofs.Common.{◌≡◌, cond, ◌≤◌, ◌^◌, Bool, true, false, not, List, refl, subst, unsigned_abs, ℕ, Ok, Option, Some, None}
+use Rattle.std.proofs.Common.{◌≡◌, cond, ◌≤◌, ◌^◌, Bool, true, false, not, List, get_or, refl, subst, unsigned_abs, ℕ, Ok, Option, Some, None}
 use Rattle.std.specs.Prelude.{All, nat_le}
 use Rattle.std.proofs.lemmas.List.Elements.{All-append, All-filter, All-map}
 use Rattle.qm_model.specs.declared.game.Problem.{Problem}
@@ -48,7 +48,7 @@ vars_near ast h =
     let wholes : All Fits (whole_names ast) = All-filter (λ (named : Named). is_whole ast named.name) Fits ast.order none in
     let others : All Fits (continuous_names ast) = All-filter (λ (named : Named). not (is_whole ast named.name)) Fits ast.order none in
     let all : All Fits (game_order ast) = All-append Fits (whole_names ast) (continuous_names ast) wholes others in
-    All-map IsNear (var_of ast) (game_order ast) (λ k d inside. near_var _ (all k d inside))
+    All-map IsNear (var_of ast) (game_order ast) (λ k d inside. near_var (var_of ast (get_or (game_order ast) k d)) (all k d inside))
 
 pub stated_near : (text : List ℕ) (P : Problem) → States text P → All IsNear P.vars
 stated_near text P states =
