@@ -33,8 +33,9 @@ fn prefix_of(alloc: Global, game: &Game, bx: &Bx) -> Result<List<i64>, Memory>
     requires { game.now.wholes ≤ length bx.now }
     ensures { IfOk result (λ prefix. prefix ≡ prefix_in game.now bx.now) }
 {
+    let set = &bx.as_slice()[..game.problem().wholes as usize];
     let mut prefix = List::new(alloc);
-    for range in &bx.as_slice()[..game.problem().wholes as usize] {
+    for range in set {
         prefix.push(range.low)?;
     }
     Ok(prefix)
@@ -50,7 +51,7 @@ fn end_outcome(alloc: Global, game: &Game, bx: &Bx, end: LpEnd) -> Result<Outcom
     match end {
         LpEnd::Void { combo, pivots: _ } => {
             // that its multipliers are above 0
-            let _entries = combo.entries();
+            let _void_form = combo.entries();
             Ok(Outcome::Lost(Refute::Close(combo)))
         }
         LpEnd::Best {
@@ -60,8 +61,8 @@ fn end_outcome(alloc: Global, game: &Game, bx: &Bx, end: LpEnd) -> Result<Outcom
             pivots: _,
         } => {
             // that its multipliers are above 0, and that the value is a fraction
-            let _entries = combo.entries();
-            let _value = value.den();
+            let _best_form = combo.entries();
+            let _positive = value.den();
             Ok(Outcome::Reached {
                 value,
                 policy: leaf_of(alloc, game, point.as_slice())?,
