@@ -91,6 +91,10 @@ module _ (P : Problem) (bx : List Range) (here : IsSearchBox P P.wholes bx) wher
       legal_of_play P (prefix_in P bx) (record { rest = completion; is_play = subst (λ us. IsPlay P (us ++ completion)) (sym values_are) play })
 
 -- where no whole variable is left
+pub nothing_left : (rest : List Var) → length rest ≡ 0 → rest ≡ []
+nothing_left [] none = refl
+nothing_left (x ∷ later) none = absurd (omega (arith, none))
+
 pub end_place : (P : Problem) (rest : List Var) (depth : ℕ) (bx : List Range) (completion : List ℤ) → rest ≡ drop depth (whole_vars P) → length rest ≡ 0 → IsSearchPlace P depth bx completion
     → IsEndPlace P bx
 end_place P rest depth bx completion from_depth none place =
