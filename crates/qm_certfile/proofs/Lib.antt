@@ -6,10 +6,13 @@ mod EmptyTold
 mod LineSplits
 mod LineTexts
 mod LowestValues
+mod NearRanges
 mod NumberWords
+pub mod PassingForms
 mod Pieces
 mod PolicyTold
 mod RefuteTold
+mod RightPieces
 mod RowWords
 mod TreeShapes
 mod TreeTexts

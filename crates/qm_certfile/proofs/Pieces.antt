@@ -15,6 +15,22 @@ both_of_type (x ∷ xs) ys h =
     let rest = both_of_type xs ys h.1 in
     ((h.0, rest.0), rest.1)
 
+pub joined_of_type : (xs ys : List Piece) → AreOfType xs → AreOfType ys → AreOfType (xs ++ ys)
+joined_of_type [] ys h k = k
+joined_of_type (x ∷ xs) ys h k = (h.0, joined_of_type xs ys h.1 k)
+
+pub together_of_type : {A : Type 0} (f : A → List Piece) (xs : List A) → All (λ x. AreOfType (f x)) xs → AreOfType (together (map f xs))
+together_of_type f [] h = tt
+together_of_type f (x ∷ xs) h = joined_of_type (f x) (together (map f xs)) (h 0 x (omega arith)) (together_of_type f xs (λ k d l. h (suc k) d (omega (arith, l))))
+
+pub numbers_of_type : (xs : List Fraction) → All IsFrac xs → AreOfType (map Number xs)
+numbers_of_type [] h = tt
+numbers_of_type (x ∷ xs) h = (h 0 x (omega arith), numbers_of_type xs (λ k d l. h (suc k) d (omega (arith, l))))
+
+pub wholes_of_type : (xs : List ℤ) → All IsWhole xs → AreOfType (map Whole xs)
+wholes_of_type [] h = tt
+wholes_of_type (x ∷ xs) h = (h 0 x (omega arith), wholes_of_type xs (λ k d l. h (suc k) d (omega (arith, l))))
+
 -- ---- the numbers that are spelled
 
 pub whole_bound : (z : ℤ) → IsWhole z → unsigned_abs z < 10 ^ 64

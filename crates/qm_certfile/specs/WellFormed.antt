@@ -1,8 +1,10 @@
 -- Certificates whose numbers and combinations are of the program's types.
-use Rattle.std.specs.Prelude.{◌<◌, ℕ, ◌^◌, ℤ, pos, negsuc, List, [], ◌∷◌, ◌++◌, All, length, map}
+use Rattle.std.specs.Prelude.{◌<◌, ◌≤◌, unsigned_abs, ℕ, ◌^◌, ℤ, pos, negsuc, List, [], ◌∷◌, ◌++◌, All, length, map}
 use Rattle.qm_math.specs.Fraction.{Fraction}
 use Rattle.qm_frac.specs.Lowest.{IsFrac}
 use Rattle.qm_model.specs.declared.range.Range.{Range}
+use Rattle.qm_model.specs.declared.game.Problem.{Problem}
+use Rattle.qm_model.specs.Boxes.{bounds_of}
 use Rattle.qm_model.specs.declared.row_id.RowId.{RowId}
 use Rattle.qm_model.specs.declared.row_id.RowId.TheVariants as id
 use Rattle.qm_trees.specs.declared.combination.Entry.{Entry}
@@ -63,6 +65,14 @@ IsOfType (Entries es) = AreEntries es × All IsEntry es
 abbrev pub AreOfType : List Piece → Type 0
 AreOfType [] = Unit {0}
 AreOfType (p ∷ ps) = IsOfType p × AreOfType ps
+
+-- the ends of the range are at most 2 ^ 50 away from 0
+abbrev pub IsNear : Range → Type 0
+IsNear r = (unsigned_abs r.low ≤ 2 ^ 50) × (unsigned_abs r.high ≤ 2 ^ 50)
+
+-- so are the bounds of each variable, in every problem that is read
+abbrev pub HasNearBounds : Problem → Type 0
+HasNearBounds P = All (λ x. IsNear (bounds_of x)) P.vars
 
 -- those of each part, one after another
 abbrev pub together : List (List Piece) → List Piece

@@ -7,7 +7,8 @@
 //! numbers are of their types (`WellFormed`): `different_well_formed_certificates_have_different_texts`.
 //!
 //! A certificate that passes (`Passes`) tells how its problem ends, and its policy reaches the value on every universal play:
-//! `a_passing_certificate_tells_the_ending`. Its value is in lowest terms: `passing_values_are_in_lowest_terms`.
+//! `a_passing_certificate_tells_the_ending`. Its value is in lowest terms: `passing_values_are_in_lowest_terms`. All that
+//! it is made of is of its type, so its text has no other: `passing_certificates_are_well_formed`.
 #![tactic(auto)]
 
 mod certificate;
@@ -22,6 +23,6 @@ pub use certificate::Certificate;
 pub use endings::{a_passing_certificate_tells_the_ending, passing_values_are_in_lowest_terms};
 pub use laws::{
     different_certificates_have_different_texts,
-    different_well_formed_certificates_have_different_texts,
+    different_well_formed_certificates_have_different_texts, passing_certificates_are_well_formed,
 };
 pub use writer::write;

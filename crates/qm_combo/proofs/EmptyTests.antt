@@ -16,21 +16,21 @@ use Rattle.qm_trees.specs.declared.empty.Empty.TheVariants.{rolls-Split, rolls-C
 use Rattle.qm_trees.specs.declared.empty.Empty.TheViews.{out-roll-Empty}
 use Rattle.qm_trees.specs.declared.empty.Empty.TheOpen as node
 use Rattle.qm_trees.specs.declared.empty.EmptyPart.{EmptyPart}
-use Rattle.qm_trees.specs.Entries.{AreEntries, Combination, weighted_rows}
+use Rattle.qm_trees.specs.Entries.{AreWellFormed, Combination, weighted_rows}
 use Rattle.qm_trees.specs.Evaluation.{value_of}
 use Rattle.qm_trees.specs.Verdicts.{Broken, answer_of}
 use Rattle.qm_trees.specs.EmptyJudgement.{all_uncertain, closes_empty, contradicts, is_void, judge_close, judge_empty, some_universal_empty}
-use Rattle.qm_trees.proofs.Multipliers.{entries_all_positive}
+use Rattle.qm_trees.proofs.Multipliers.{well_formed_says}
 use Rattle.qm_cover.proofs.PartSteps.{answer_of-line}
 use Rattle.qm_combo.specs.Splits.{judge_split}
 
 -- ---- closing
 
-module _ (P : Problem) (bx : List Range) (combo : Combination) (entries : AreEntries combo.entries) (plain : combo.objective ≡ false) (named : all_uncertain P combo.entries ≡ true) where
+module _ (P : Problem) (bx : List Range) (combo : Combination) (form : AreWellFormed combo.entries) (plain : combo.objective ≡ false) (named : all_uncertain P combo.entries ≡ true) where
   contradicts_is_judged : contradicts P bx combo ≡ answer_of (judge_close P bx combo)
   contradicts_is_judged =
-      let tests : closes_empty P bx combo ≡ contradicts P bx combo = rw (entries_all_positive combo.entries entries, named) refl in
-      rw plain (sym tests ∙ sym (answer_of-line rule.Close (closes_empty P bx combo)))
+      let tests : closes_empty P bx combo ≡ contradicts P bx combo = rw named refl in
+      rw (plain, (well_formed_says combo.entries).1 form) (sym tests ∙ sym (answer_of-line rule.Close (closes_empty P bx combo)))
 
   pub closed_by_range : some_universal_empty (whole_vars P) bx ≡ true → Ok true ≡ answer_of (judge_close P bx combo)
   closed_by_range e = (let here : Ok true ≡ contradicts P bx combo = rw e refl in here) ∙ contradicts_is_judged

@@ -3,7 +3,10 @@ use Rattle.std.proofs.Common.{◌≡◌, refl, sym, subst, ◌∙◌, ℕ, zero,
 use Rattle.std.specs.Prelude.{IsSomeAnd, slice_get}
 use Rattle.std.proofs.lemmas.Int.{ints}
 use Rattle.std.proofs.lemmas.Option.{slice_get_within, get_or_from_slice_get}
+use Rattle.std.proofs.lemmas.List.Elements.{All-cons, All-nil}
 use Rattle.qm_math.specs.Fraction.{whole}
+use Rattle.qm_frac.specs.Lowest.{IsFrac}
+use Rattle.qm_frac.proofs.Terms.{whole_is}
 use Rattle.qm_model.specs.declared.range.Range.{Range}
 use Rattle.qm_model.specs.declared.row.Row.{Row}
 use Rattle.qm_model.specs.declared.row_id.RowId.TheVariants as id
@@ -18,7 +21,7 @@ use Rattle.qm_trees.specs.declared.combination.Entry.{Entry}
 use Rattle.qm_trees.specs.declared.empty.Empty.{Empty, Split, Close, out-Empty}
 use Rattle.qm_trees.specs.declared.empty.Empty.TheOpen as node
 use Rattle.qm_trees.specs.declared.empty.EmptyPart.{EmptyPart}
-use Rattle.qm_trees.specs.Entries.{AreEntries, Combination, weighted_rows}
+use Rattle.qm_trees.specs.Entries.{AreWellFormed, Combination, weighted_rows}
 use Rattle.qm_trees.specs.EmptyJudgement.{Layer, range_of, below_of, all_uncertain, judge_close, judge_empty, some_universal_empty}
 use Rattle.qm_trees.specs.EmptyRight.{IsCloseInRange, IsEmptyInRange, IsRightClose, IsRightEmpty, IsRightSplit, IsSplitInRange}
 use Rattle.qm_trees.specs.Evaluation.{value_of}
@@ -40,7 +43,7 @@ module _ (P : Problem) (rest : List Var) (depth : ℕ) (bx : List Range) (tree :
 
   -- by an empty universal range
   pub empty_shows : some_universal_empty (whole_vars P) bx ≡ true → tree ≡ Close (record { objective = false; entries = [] }) → Shows P rest depth bx tree
-  empty_shows empty is = shows_close (record { objective = false; entries = [] }) is (sym (closed_by_range P bx (record { objective = false; entries = [] }) tt refl refl empty))
+  empty_shows empty is = shows_close (record { objective = false; entries = [] }) is (sym (closed_by_range P bx (record { objective = false; entries = [] }) (tt, All-nil (λ (e : Entry). IsFrac e.by)) refl refl empty))
 
   abbrev once : ℕ → Entry
   once n = record { row = id.Uncertain n; by = whole (pos 1) }
@@ -52,8 +55,10 @@ module _ (P : Problem) (rest : List Var) (depth : ℕ) (bx : List Range) (tree :
   row_shows : (n : ℕ) (row : Row) → IsRowOver P.vars row → IsBox P.vars bx → slice_get P.urows n ≡ Some row → IsDead bx row → tree ≡ Close (alone n) → Shows P rest depth bx tree
   row_shows n row over box at dead is = shows_close (alone n) is (by (some_universal_empty (whole_vars P) bx) refl)
     where
-      entries : AreEntries (once n ∷ [])
-      entries = (omega arith, omega (arith, ints))
+      form : AreWellFormed (once n ∷ [])
+      form =
+          let one : IsFrac (whole (pos 1)) = whole_is (pos 1) (omega arith) in
+          ((omega arith, omega (arith, ints)), All-cons (λ (e : Entry). IsFrac e.by) (once n) [] one (All-nil (λ (e : Entry). IsFrac e.by)))
 
       named : all_uncertain P (once n ∷ []) ≡ true
       named = rw at refl
@@ -62,8 +67,8 @@ module _ (P : Problem) (rest : List Var) (depth : ℕ) (bx : List Range) (tree :
       value = rw at (dead_row_value P bx row over box dead)
 
       by : (b : Bool) → some_universal_empty (whole_vars P) bx ≡ b → answer_of (judge_close P bx (alone n)) ≡ Ok true
-      by true e = sym (closed_by_range P bx (alone n) entries refl named e)
-      by false e = sym (closed_by_value P bx (alone n) entries refl named e Void value)
+      by true e = sym (closed_by_range P bx (alone n) form refl named e)
+      by false e = sym (closed_by_value P bx (alone n) form refl named e Void value)
 
   pub dead_shows : (n : ℕ) → IsSound P → IsBox P.vars bx → IsSomeAnd (slice_get P.urows n) (IsDead bx) → tree ≡ Close (alone n) → Shows P rest depth bx tree
   dead_shows n sound box some is = by (slice_get P.urows n) refl some

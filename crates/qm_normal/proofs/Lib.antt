@@ -40,6 +40,7 @@ pub mod ProblemParts
 pub mod OrderSizes
 pub mod TreesOfTexts
 pub mod ParsedTexts
+pub mod StatedBounds
 pub mod StatedOnce
 pub mod FormSteps
 pub mod NoFaultOfMemory

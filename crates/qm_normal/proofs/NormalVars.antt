@@ -43,7 +43,7 @@ passed_over : (b : Bool) (named : Named) (rest : Option Named) → cond b (Some 
 passed_over true named rest h = absurd (cc)
 passed_over false named rest h = (refl, h)
 
-none_such : (test : Named → Bool) (list : List Named) → first_such test list ≡ None → All (λ named. test named ≡ false) list
+pub none_such : (test : Named → Bool) (list : List Named) → first_such test list ≡ None → All (λ named. test named ≡ false) list
 unfolding first_such
 none_such test [] h = All-nil (λ named. test named ≡ false)
 none_such test (named ∷ list) h =

@@ -33,6 +33,9 @@ tree_parts text tokens ast parsed =
       plain = text_plain names parts.symbols ast parts.says;
     }
 
+pub parsed_proper : (text : List ℕ) (tokens : List Token) (ast : Ast) → IsParsed text tokens (Ok ast) → HasProperNumbers ast
+parsed_proper text tokens ast parsed = (tree_parts text tokens ast parsed).proper
+
 pub parsed_problem : (text : List ℕ) (tokens : List Token) (ast : Ast) (P : Problem) (den : ℕ) (nums : ℕ → ℤ)
     → IsParsed text tokens (Ok ast) → normal_form ast ≡ Ok P → 0 < den → AreWholeOver den nums ast → MeetsProblem P den (in_game_order ast nums) ↔ MeetsText ast (value_over den nums)
 parsed_problem text tokens ast P den nums parsed form some whole =

@@ -1,4 +1,4 @@
-ghost use Rattle.std.specs.Prelude.{◌≡◌, ◌≢◌, ◌↔◌, ◌<◌, ◌^◌, ℕ, ℤ, All, List, length, Ok, Err, Some};
+ghost use Rattle.std.specs.Prelude.{◌≡◌, ◌≢◌, ◌↔◌, ◌<◌, ◌≤◌, ◌^◌, ℕ, ℤ, All, List, length, unsigned_abs, Ok, Err, Some};
 ghost use Rattle.qm_math.specs.Fraction.{IsSame};
 ghost use Rattle.qm_model.specs.declared.game.Problem.{Problem};
 ghost use Rattle.qm_model.specs.declared.row.Row.{Row};
@@ -84,6 +84,12 @@ pub fn normal_forms_are_what_is_parsed()
     ensures objective { (text : List ℕ) (tokens : List Token) (ast : Ast) (P : Problem) (den : ℕ) (nums : ℕ → ℤ) →
         IsParsed text tokens (Ok ast) → normal_form ast ≡ Ok P → 0 < den →
         IsSame (objective_over P den (in_game_order ast nums)) (maximised_value ast.sense (written_value (value_over den nums) ast.objective)) }
+{}
+
+/// The problem that a text states is in order, and each bound of its variables is at most 2^50 away from 0.
+pub fn stated_problems_are_in_order()
+    ensures sound { (text : List ℕ) (P : Problem) → States text P → IsSound P }
+    ensures near { (text : List ℕ) (P : Problem) → States text P → All (λ x. (unsigned_abs x.low ≤ 2 ^ 50) × (unsigned_abs x.high ≤ 2 ^ 50)) P.vars }
 {}
 
 /// A text states one problem at most.

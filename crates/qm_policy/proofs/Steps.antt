@@ -8,7 +8,7 @@ use Rattle.std.proofs.lemmas.List.Sums.{sum_by-cons}
 use Rattle.qm_math.specs.Fraction.{Fraction, whole, is_at_most}
 use Rattle.qm_frac.specs.Checked.{Checked, and_then, added, divided, multiplied}
 use Rattle.qm_frac.specs.declared.leaves.Leaves.{Leaves}
-use Rattle.qm_frac.specs.Lowest.{IsInRange, lowest_terms, lowest_parts}
+use Rattle.qm_frac.specs.Lowest.{IsFrac, IsInRange, lowest_terms, lowest_parts}
 use Rattle.qm_frac.proofs.CheckedLaws.{and_then_assoc}
 use Rattle.qm_frac.proofs.SignLaws.{signed_abs}
 use Rattle.qm_model.proofs.Sizes.{one_le_reach}
@@ -20,15 +20,20 @@ use Rattle.qm_model.specs.declared.variable.Var.{Var}
 use Rattle.qm_model.specs.Sizes.{reach_in_vars, terms_size}
 use Rattle.qm_model.proofs.Sizes.{one_le_reach}
 use Rattle.qm_trees.specs.Verdicts.{answer_of}
+use Rattle.qm_trees.specs.declared.rule.Rule.TheVariants as rule
 use Rattle.qm_trees.specs.Evaluation.{least_end_by, zero}
-use Rattle.qm_trees.specs.Leaves.{add_terms, are_in_bounds, leaf_objective, objective_reaches, value_at}
-use Rattle.qm_trees.specs.declared.policy.Policy.{Policy, Answer, out-Policy}
-use Rattle.qm_trees.specs.declared.policy.Policy.TheVariants.{rolls-Answer}
+use Rattle.qm_trees.specs.Leaves.{add_terms, are_in_bounds, leaf_objective, leaf_passes, objective_reaches, value_at}
+use Rattle.qm_trees.specs.declared.policy.Policy.{Policy, Answer, Leaf, out-Policy}
+use Rattle.qm_trees.specs.declared.policy.Policy.TheVariants.{rolls-Answer, rolls-Leaf}
 use Rattle.qm_trees.specs.declared.policy.Below.TheViews.{out-roll-Policy}
 use Rattle.qm_trees.specs.declared.policy.PolicyPart.{PolicyPart}
 use Rattle.qm_trees.specs.declared.policy.Below.TheOpen as node
-use Rattle.qm_trees.specs.PolicyJudgement.{judge_policy}
+use Rattle.qm_trees.specs.PolicyJudgement.{judge_end, judge_policy}
 use Rattle.qm_model.specs.declared.game.Problem.{Problem}
+use Rattle.qm_model.specs.Points.{continuous_vars}
+use Rattle.qm_trees.proofs.Moves.{same_count}
+use Rattle.qm_trees.proofs.Multipliers.{fracs_say}
+use Rattle.qm_cover.proofs.PartSteps.{answer_of-line}
 use Rattle.qm_policy.specs.Parts.{judge_answer}
 use Rattle.qm_policy.specs.Steps.{add_term}
 
@@ -51,6 +56,18 @@ answer_judged P v rest depth bx policy parts slice is same = by rest (ap out-Pol
     by : (xs : List Var) → out-Policy policy ≡ node.Answer slice → answer_of (judge_answer P v xs depth bx slice) ≡ answer_of (judge_policy P v xs depth bx policy)
     by [] layer = rw layer refl
     by (x ∷ later) layer = rw layer refl
+
+-- ---- leaves
+
+out-of-Leaf : (point : List Fraction) → out-Policy (Leaf point) ≡ node.Leaf point
+out-of-Leaf point = ap out-Policy (sym (rolls-Leaf point)) ∙ out-roll-Policy (node.Leaf point)
+
+-- a leaf with a value for each continuous variable, each a fraction of the program
+pub leaf_judged : (P : Problem) (v : Fraction) (bx : List Range) (policy : Policy) (point : List Fraction) → policy ≡ Leaf point → length point ≡ length (continuous_vars P) → All IsFrac point
+    → leaf_passes P v bx point ≡ answer_of (judge_end P v bx (out-Policy policy))
+leaf_judged P v bx policy point is count fracs =
+    let layer : out-Policy policy ≡ node.Leaf point = ap out-Policy is ∙ out-of-Leaf point in
+    rw (layer, same_count (length point) (length (continuous_vars P)) count, (fracs_say point).1 fracs) (sym (answer_of-line rule.Leaf (leaf_passes P v bx point)))
 
 -- ---- bounds
 

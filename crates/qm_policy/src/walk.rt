@@ -20,7 +20,7 @@ use qm_cover::{count_is_right, follows, is_last};
 use qm_frac::{Frac, Leaves};
 use qm_game::{Bx, Game, Place, Range};
 use qm_model::{after, contains, is_for_all, single, start};
-use qm_trees::{Below, Empty, Policy, PolicyPart};
+use qm_trees::{Below, Empty, Policy, PolicyPart, values_are_fractions};
 
 /// Whether the policy reaches the value from each prefix in the box that universal plays have: each rule is met, in
 /// the order of the text. Leaves where the first operation leaves, if no rule is broken before. The box stays as it was. If the
@@ -185,6 +185,7 @@ fn test_end(game: &Game, bx: &Bx, value: Frac, policy: &Policy) -> Result<bool, 
             if point.len() != problem.vars.len() - problem.wholes as usize {
                 return Ok(false);
             }
+            values_are_fractions(point.as_slice());
             passes(problem, bx.as_slice(), point.as_slice(), value)
         }
         _ => Ok(false),

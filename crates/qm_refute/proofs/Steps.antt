@@ -1,5 +1,5 @@
 -- How the tests go on, step by step.
-use Rattle.std.proofs.Common.{◌≡◌, ℕ, zero, suc, ◌+◌, ◌<◌, ◌≤◌, true, false, List, [], ◌∷◌, length, drop, get_or, refl, sym, ap, ◌∙◌, arith, ℤ}
+use Rattle.std.proofs.Common.{◌≡◌, ℕ, zero, suc, ◌+◌, ◌<◌, ◌≤◌, true, false, List, [], ◌∷◌, length, drop, get_or, refl, sym, ap, ◌∙◌, arith, ℤ, Ok}
 use Rattle.std.specs.Prelude.{nat_eq}
 use Rattle.std.proofs.lemmas.List.{drop_all, drop_more}
 use Rattle.std.proofs.lemmas.Bool.Decides.{nat_tests}
@@ -16,18 +16,24 @@ use Rattle.qm_trees.specs.declared.refutation.Refute.TheOpen as node
 use Rattle.qm_trees.specs.declared.refutation.RefutePart.{RefutePart}
 use Rattle.qm_model.specs.Ranges.{is_in}
 use Rattle.qm_trees.specs.Picks.{fit}
-use Rattle.qm_trees.specs.Entries.{AreEntries, Combination, weighted_rows}
+use Rattle.qm_trees.specs.Entries.{AreWellFormed, Combination, weighted_rows}
+use Rattle.qm_trees.specs.declared.rule.Rule.TheVariants as rule
 use Rattle.qm_trees.specs.Closing.{closing}
 use Rattle.qm_trees.specs.Verdicts.{answer_of}
-use Rattle.qm_trees.specs.RefuteJudgement.{all_named, closes_here, judge_refute}
+use Rattle.qm_trees.specs.RefuteJudgement.{all_named, judge_close, judge_refute}
+use Rattle.qm_cover.proofs.PartSteps.{answer_of-line}
 use Rattle.qm_refute.specs.Parts.{judge_over}
-use Rattle.qm_trees.proofs.Multipliers.{entries_all_positive}
+use Rattle.qm_trees.proofs.Multipliers.{well_formed_says}
 
 -- ---- closing
 
-pub named_closes : (P : Problem) (cuts : List Row) (bx : List Range) (G : Goal) (combo : Combination) → AreEntries combo.entries → all_named P cuts combo.entries ≡ true
-    → closes_here P cuts bx G combo ≡ closing P combo.objective (weighted_rows P cuts combo.entries) bx G
-named_closes P cuts bx G combo entries named = rw (entries_all_positive combo.entries entries, named) refl
+module _ (P : Problem) (cuts : List Row) (G : Goal) (bx : List Range) (combo : Combination) (form : AreWellFormed combo.entries) where
+  pub named_closes : all_named P cuts combo.entries ≡ true → answer_of (judge_close P cuts G bx combo) ≡ closing P combo.objective (weighted_rows P cuts combo.entries) bx G
+  named_closes named =
+      rw ((well_formed_says combo.entries).1 form, named) (answer_of-line rule.Close (closing P combo.objective (weighted_rows P cuts combo.entries) bx G))
+
+  pub other_closes : all_named P cuts combo.entries ≡ false → answer_of (judge_close P cuts G bx combo) ≡ Ok false
+  other_closes other = rw ((well_formed_says combo.entries).1 form, other) refl
 
 -- ---- completions
 

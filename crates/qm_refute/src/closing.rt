@@ -3,7 +3,8 @@ ghost use Rattle.qm_game.specs.Goals.{goal_of};
 ghost use Rattle.qm_model.specs.Boxes.{IsBox};
 ghost use Rattle.qm_model.specs.Sound.{IsRowOver};
 ghost use Rattle.qm_trees.specs.Entries.{row_named};
-ghost use Rattle.qm_trees.specs.RefuteJudgement.{all_named, closes_here};
+ghost use Rattle.qm_trees.specs.RefuteJudgement.{all_named, judge_close};
+ghost use Rattle.qm_trees.specs.Verdicts.{answer_of};
 
 use crate::sought::Sought;
 use qm_combo::closes;
@@ -39,7 +40,7 @@ fn all_named(problem: &Problem, cuts: &[Row], entries: &[Entry]) -> bool
 pub fn closes_here(game: &Game, sought: Sought<'_>, bx: &Bx, combo: &Combo) -> Result<bool, Leaves>
     requires cuts { All (IsRowOver game.now.vars) sought.cuts.now }
     requires bx { IsBox game.now.vars bx.now }
-    ensures { result ≡ closes_here game.now sought.entry.cuts.now bx.now (goal_of sought.entry.goal.now) combo.now }
+    ensures { result ≡ answer_of (judge_close game.now sought.entry.cuts.now (goal_of sought.entry.goal.now) bx.now combo.now) }
 {
     if !all_named(game.problem(), sought.cuts, combo.entries()) {
         return Ok(false);

@@ -4,6 +4,8 @@ use Rattle.std.specs.Prelude.{Any, IsSomeAnd, IsSome, slice_get}
 use Rattle.std.proofs.lemmas.List.Elements.{All-cons, All-nil, All-head, All-tail}
 use Rattle.std.proofs.lemmas.Int.{ints}
 use Rattle.qm_math.specs.Fraction.{whole}
+use Rattle.qm_frac.specs.Lowest.{IsFrac}
+use Rattle.qm_frac.proofs.Terms.{whole_is}
 use Rattle.qm_model.specs.declared.range.Range.{Range}
 use Rattle.qm_model.specs.declared.row.Row.{Row}
 use Rattle.qm_model.specs.declared.row_id.RowId.{RowId}
@@ -18,7 +20,7 @@ use Rattle.qm_trees.specs.declared.refutation.Refute.{Refute, Close, out-Refute}
 use Rattle.qm_trees.specs.declared.refutation.Refute.TheVariants.{rolls-Close}
 use Rattle.qm_trees.specs.declared.refutation.Refute.TheViews.{out-roll-Refute}
 use Rattle.qm_trees.specs.declared.refutation.Refute.TheOpen as node
-use Rattle.qm_trees.specs.Entries.{AreEntries, Combination, IsPositive, row_named, weighted_rows}
+use Rattle.qm_trees.specs.Entries.{AreWellFormed, Combination, row_named, weighted_rows}
 use Rattle.qm_trees.specs.Closing.{Closes, closing}
 use Rattle.qm_trees.specs.RefuteJudgement.{Layer}
 use Rattle.qm_trees.specs.RefuteRight.{AreNamed, IsRightClose, IsCloseInRange, IsRightEnd, IsEndInRange}
@@ -33,11 +35,11 @@ pub closes_at_once : (combo : Combination) → out-Refute (Close combo) ≡ node
 closes_at_once combo = ap out-Refute (sym (rolls-Close combo)) ∙ out-roll-Refute (node.Close combo)
 
 -- where all variables are set, a combination that closes the goal refutes it
-pub refutes_from : (P : Problem) (depth : ℕ) (bx : List Range) (G : Goal) (combo : Combination) (tree : Refute) → AreEntries combo.entries → AreNamed P [] combo.entries
+pub refutes_from : (P : Problem) (depth : ℕ) (bx : List Range) (G : Goal) (combo : Combination) (tree : Refute) → AreWellFormed combo.entries → AreNamed P [] combo.entries
     → Closes P combo.objective (weighted_rows P [] combo.entries) bx G → IsCloseInRange P [] G bx combo → tree ≡ Close combo → Refutes P [] depth bx G tree
-refutes_from P depth bx G combo tree entries named closes fits is =
+refutes_from P depth bx G combo tree form named closes fits is =
     let layer : node.Close combo ≡ out-Refute tree = sym (ap out-Refute is ∙ closes_at_once combo) in
-    let right : IsRightClose P [] G bx combo = (entries_positive combo.entries entries, named, closes) in
+    let right : IsRightClose P [] G bx combo = (form, named, closes) in
     record {
       right = subst (λ (l : Layer). IsRightEnd P [] G bx l) layer right;
       in_range = subst (λ (l : Layer). IsEndInRange P [] G bx l) layer fits;
@@ -45,19 +47,21 @@ refutes_from P depth bx G combo tree entries named closes fits is =
 
 -- so does one whose test answers yes
 pub refutes_by : (P : Problem) (depth : ℕ) (bx : List Range) (G : Goal) (combo : Combination) (tree : Refute)
-    → IsSound P → IsProper G → AreEntries combo.entries → AreNamed P [] combo.entries
+    → IsSound P → IsProper G → AreWellFormed combo.entries → AreNamed P [] combo.entries
     → closing P combo.objective (weighted_rows P [] combo.entries) bx G ≡ Ok true → tree ≡ Close combo → Refutes P [] depth bx G tree
-refutes_by P depth bx G combo tree sound proper entries named e is =
-    let positive = entries_positive combo.entries entries in
+refutes_by P depth bx G combo tree sound proper form named e is =
+    let positive = entries_positive combo.entries form.0 in
     let closes = (closing_exact P combo.objective (weighted_rows P [] combo.entries) bx G (weighted_dens P [] combo.entries positive) sound.scale_positive proper).0 e in
-    refutes_from P depth bx G combo tree entries named closes.0 closes.1 is
+    refutes_from P depth bx G combo tree form named closes.0 closes.1 is
 
 -- the entry of a row with the multiplier 1
 abbrev pub once : RowId → Entry
 once row = record { row = row; by = whole (pos 1) }
 
-once_positive : (row : RowId) → IsPositive (once row)
-once_positive row = (omega arith, omega (arith, ints))
+once_well_formed : (row : RowId) → AreWellFormed (once row ∷ [])
+once_well_formed row =
+    let one : IsFrac (whole (pos 1)) = whole_is (pos 1) (omega arith) in
+    ((omega arith, omega (arith, ints)), All-cons (λ (e : Entry). IsFrac e.by) (once row) [] one (All-nil (λ (e : Entry). IsFrac e.by)))
 
 -- an item that has one property, where all have another
 with_all : {X : Type 0} (D Q : X → Type 0) (xs : List X) (n : ℕ) → All Q xs → IsSomeAnd (slice_get xs n) D → IsSomeAnd (slice_get xs n) (λ x. D x × Q x)
@@ -77,13 +81,13 @@ module _ (P : Problem) (depth : ℕ) (bx : List Range) (sound : IsSound P) (box 
       let there : IsSome (row_named P [] row) = rw e refl in
       let named = All-cons (λ (entry : Entry). IsSome (row_named P [] entry.row)) (once row) [] there (All-nil (λ (entry : Entry). IsSome (row_named P [] entry.row))) in
       let yes : closing P false (weighted_rows P [] (once row ∷ [])) bx G ≡ Ok true = rw e (dead_row_closes P bx r G h.1 box h.0) in
-      refutes_by P depth bx G (record { objective = false; entries = once row ∷ [] }) tree sound proper (once_positive row) named yes is
+      refutes_by P depth bx G (record { objective = false; entries = once row ∷ [] }) tree sound proper (once_well_formed row) named yes is
 
   -- over a box with an empty range no rows are needed
   pub empty_refutes : (tree : Refute) → Any IsEmptyRange bx → tree ≡ Close (record { objective = false; entries = [] }) → Refutes P [] depth bx G tree
   empty_refutes tree empty is =
       let yes : closing P false [] bx G ≡ Ok true = sym (closing_empty P false [] bx G empty) in
-      refutes_by P depth bx G (record { objective = false; entries = [] }) tree sound proper tt (All-nil (λ (entry : Entry). IsSome (row_named P [] entry.row))) yes is
+      refutes_by P depth bx G (record { objective = false; entries = [] }) tree sound proper (tt, All-nil (λ (e : Entry). IsFrac e.by)) (All-nil (λ (entry : Entry). IsSome (row_named P [] entry.row))) yes is
 
   -- the first dead row alone refutes the goal
   pub first_dead_refutes : (row : RowId) (tree : Refute) → IsFirstDead P bx (Some row)

@@ -1,19 +1,24 @@
 -- Where all whole variables are set: the prefix that the box has, and that it is complete and legal.
-use Rattle.std.proofs.Common.{◌≡◌, ℕ, zero, suc, ◌-◌, ◌<◌, ◌≤◌, Bool, true, false, List, [], ◌∷◌, ◌++◌, length, map, take, drop, All, arith, refl, sym, ap, subst, ◌∙◌, ℤ, if◌then◌else◌}
+use Rattle.std.proofs.Common.{◌≡◌, ℕ, zero, suc, ◌-◌, ◌<◌, ◌≤◌, Bool, true, false, List, [], ◌∷◌, ◌++◌, length, map, take, drop, All, arith, refl, sym, ap, subst, ◌∙◌, ℤ, if◌then◌else◌, Err, None}
+use Rattle.std.specs.Prelude.{Any}
 use Rattle.std.proofs.lemmas.Int.{ints}
 use Rattle.std.proofs.lemmas.List.{length-drop, length-map, length-take, take-append-drop}
 use Rattle.std.proofs.lemmas.List.Elements.{All-head, All-tail}
 use Rattle.qm_model.specs.declared.range.Range.{Range}
 use Rattle.qm_model.specs.declared.variable.Var.{Var}
 use Rattle.qm_model.specs.declared.game.Problem.{Problem}
-use Rattle.qm_model.specs.Boxes.{IsBox, whole_box_of}
+use Rattle.qm_model.specs.Boxes.{IsBox, IsEmptyRange, whole_box_of}
 use Rattle.qm_model.specs.Legal.{IsComplete, IsLegal, IsPrefix, universal_part}
 use Rattle.qm_model.specs.Plays.{BeginWithin, IsPlay, is_universal, whole_vars}
 use Rattle.qm_model.specs.Ranges.{single}
 use Rattle.qm_model.proofs.BoxLaws.{IsBox-length}
 use Rattle.qm_model.proofs.Legality.{legal_of_play}
 use Rattle.qm_legal.specs.Queries.{low_of, set_values}
-use Rattle.qm_simplex.specs.RightLeaves.{prefix_box}
+use Rattle.qm_game.specs.Dead.{IsFirstDead}
+use Rattle.qm_simplex.specs.declared.answers.RunLeaves.{RunLeaves}
+use Rattle.qm_simplex.specs.LeafRuns.{IsLeafRun}
+use Rattle.qm_simplex.specs.RightLeaves.{IsRightLeave, prefix_box}
+use Rattle.qm_search.specs.Faults.{IsAny}
 use Rattle.qm_search.specs.PlaceSteps.{IsEndPlace, IsSearchBox, IsSearchPlace, IsSingle, prefix_in}
 
 -- ranges of one value are those of their values
@@ -86,6 +91,10 @@ module _ (P : Problem) (bx : List Range) (here : IsSearchBox P P.wholes bx) wher
       legal_of_play P (prefix_in P bx) (record { rest = completion; is_play = subst (λ us. IsPlay P (us ++ completion)) (sym values_are) play })
 
 -- where no whole variable is left
+pub nothing_left : (rest : List Var) → length rest ≡ 0 → rest ≡ []
+nothing_left [] none = refl
+nothing_left (x ∷ later) none = absurd (omega (arith, none))
+
 pub end_place : (P : Problem) (rest : List Var) (depth : ℕ) (bx : List Range) (completion : List ℤ) → rest ≡ drop depth (whole_vars P) → length rest ≡ 0 → IsSearchPlace P depth bx completion
     → IsEndPlace P bx
 end_place P rest depth bx completion from_depth none place =
@@ -93,3 +102,20 @@ end_place P rest depth bx completion from_depth none place =
     omega (arith, none, ap length from_depth, length-drop depth (whole_vars P), length-take P.wholes P.vars, place.box.shallow, place.box.sound.wholes) in
     let here : IsSearchBox P P.wholes bx = subst (λ n. IsSearchBox P n bx) last place.box in
     record { box = here; legal = legal_at P bx here completion (subst (λ n. IsPlay P (set_values P n bx ++ completion)) last place.completes) }
+
+-- ---- where the leaf run leaves
+
+pub right_leave : (P : Problem) (bx : List Range) (prefix : List ℤ) (run : RunLeaves) → IsEndPlace P bx → P.wholes < length P.vars → (Any IsEmptyRange bx → ⊥) → IsFirstDead P bx None
+    → IsLeafRun P bx (Err run) → prefix ≡ prefix_in P bx → IsRightLeave P IsAny prefix run
+right_leave P bx prefix run place mixed full alive leaves is =
+    let same = sym (box_is P bx place.box) in
+    subst (λ (vs : List ℤ). IsRightLeave P IsAny vs run) (sym is) (record {
+      continuous = mixed;
+      within = prefix_within P bx place.box;
+      complete = prefix_complete P bx place.box;
+      legal = place.legal;
+      full = subst (λ (rs : List Range). Any IsEmptyRange rs → ⊥) same full;
+      alive = subst (λ (rs : List Range). IsFirstDead P rs None) same alive;
+      leaves = subst (λ (rs : List Range). IsLeafRun P rs (Err run)) same leaves;
+      shorter = λ n some less. tt;
+    })

@@ -2,6 +2,7 @@
 use Rattle.std.proofs.Common.{◌≡◌, ℕ, ◌<◌, List, [], length, All, sym, subst, ap, ◌∙◌, true, Ok, None}
 use Rattle.std.proofs.lemmas.List.Elements.{All-nil}
 use Rattle.qm_math.specs.Fraction.{Fraction}
+use Rattle.qm_frac.specs.Lowest.{IsFrac}
 use Rattle.qm_model.specs.declared.range.Range.{Range}
 use Rattle.qm_model.specs.declared.game.Problem.{Problem}
 use Rattle.qm_model.specs.Boxes.{IsBox}
@@ -9,6 +10,7 @@ use Rattle.qm_model.specs.Goals.{Above}
 use Rattle.qm_model.specs.Sound.{IsSound}
 use Rattle.qm_game.specs.Dead.{IsFirstDead}
 use Rattle.qm_trees.specs.declared.combination.ComboValue.TheVariants.{Bound}
+use Rattle.qm_trees.specs.declared.combination.Entry.{Entry}
 use Rattle.qm_trees.specs.declared.policy.Policy.{Policy, Leaf, out-Policy}
 use Rattle.qm_trees.specs.declared.policy.Policy.TheVariants.{rolls-Leaf}
 use Rattle.qm_trees.specs.declared.policy.Below.TheViews.{out-roll-Policy}
@@ -44,11 +46,11 @@ module _ (P : Problem) (depth : ℕ) (bx : List Range) (sound : IsSound P) (box 
       subst (λ (v : Fraction). leaf_passes P v bx [] ≡ Ok true) (sym (bound_is_objective P bx sound box b is)) (whole_leaf_passes P bx sound box all_whole set alive.0) in
       let leaf = leaf_of_passes P b bx [] sound.scale_positive bound_den passes in
       record {
-        right = subst (λ (l : Layer). IsRightEnd P b bx l) layer leaf.0;
+        right = subst (λ (l : Layer). IsRightEnd P b bx l) layer (All-nil IsFrac, leaf.0);
         in_range = subst (λ (l : Layer). IsEndInRange P b bx l) layer leaf.1;
       }
 
   -- the objective alone refutes anything above its bound
   pub objective_refutes : (tree : Refute) → tree ≡ Close (record { objective = true; entries = [] }) → Refutes P [] depth bx (Above b) tree
   objective_refutes tree closed =
-      refutes_by P depth bx (Above b) (record { objective = true; entries = [] }) tree sound bound_den tt (All-nil _) (objective_closes P bx b is) closed
+      refutes_by P depth bx (Above b) (record { objective = true; entries = [] }) tree sound bound_den (tt, All-nil (λ (e : Entry). IsFrac e.by)) (All-nil _) (objective_closes P bx b is) closed

@@ -1,8 +1,10 @@
-ghost use Rattle.std.specs.Prelude.{◌≡◌, ◌+◌, ◌<◌, ◌^◌, [], All, Any, IfErr, IfOk, length};
+ghost use Rattle.std.specs.Prelude.{◌≡◌, ◌+◌, ◌<◌, ◌^◌, ℕ, [], All, Any, IfErr, IfOk, length};
+ghost use Rattle.qm_math.specs.Fraction.{Fraction};
 ghost use Rattle.qm_model.specs.Boxes.{IsBox, IsEmptyRange};
 ghost use Rattle.qm_model.specs.Sound.{IsRowOver, IsSound};
 ghost use Rattle.qm_simplex.specs.declared.answers.LeavePlace.TheVariants as place;
-ghost use Rattle.qm_simplex.specs.LeafRuns.{combination_at, evaluated, leaf_point, objective_at, rows_at};
+ghost use Rattle.qm_simplex.specs.declared.answers.LpEnd.TheVariants.{Best};
+ghost use Rattle.qm_simplex.specs.LeafRuns.{combination_at, evaluated, objective_at, rows_at};
 ghost use Rattle.qm_simplex.specs.Stops.{located};
 ghost use Rattle.qm_trees.specs.Leaves.{row_sum};
 ghost use Rattle.qm_trees.specs.RefuteRight.{AreNamed};
@@ -95,8 +97,24 @@ fn combination_in_range(game: &Game, bx: &Bx, combo: &Combo) -> Result<(), Left>
     }
 }
 
-/// The evaluation behind the end: at a best one each row, then the objective, then the combination; at a void one the
-/// combination alone.
+/// The evaluation behind a best end: each row, then the objective, then the combination.
+#[tactic(auto, using(crate::proofs::LeafRows::best_rows_leave, crate::proofs::LeafRows::best_objective_leaves, crate::proofs::LeafRows::best_told))]
+fn best_in_range(game: &Game, bx: &Bx, point: &[Frac], combo: &Combo) -> Result<(), Left>
+    requires bx { IsBox game.now.vars bx.now }
+    requires ranges { length bx.now ≡ length game.now.vars }
+    requires long { length point.now ≡ length game.now.vars }
+    requires named { AreNamed game.now [] combo.now.entries }
+    ensures { (value : Fraction) (pivots : ℕ) → Tells (evaluated game.now bx.now (Best point.now value combo.now pivots)) result }
+{
+    let problem = game.problem();
+    let leaf = &point[problem.wholes as usize..];
+    rows_in_range(problem, bx.as_slice(), leaf, problem.rows.as_slice())?;
+    objective_in_range(problem, bx.as_slice(), leaf)?;
+    combination_in_range(game, bx, combo)
+}
+
+/// The evaluation behind the end: at a void one that of the combination alone.
+#[tactic(auto, using(crate::proofs::LeafEnds::best_long, crate::proofs::LeafEnds::end_named, crate::proofs::LeafRows::void_told))]
 fn end_in_range(game: &Game, bx: &Bx, end: &LpEnd) -> Result<(), Left>
     requires bx { IsBox game.now.vars bx.now }
     requires lawful { IsLawfulEnd game.now bx.now end.now }
@@ -104,18 +122,13 @@ fn end_in_range(game: &Game, bx: &Bx, end: &LpEnd) -> Result<(), Left>
 {
     match end {
         LpEnd::Void { combo, .. } => combination_in_range(game, bx, combo),
-        LpEnd::Best { point, combo, .. } => {
-            let problem = game.problem();
-            let leaf = &point.as_slice()[problem.wholes as usize..];
-            rows_in_range(problem, bx.as_slice(), leaf, problem.rows.as_slice())?;
-            objective_in_range(problem, bx.as_slice(), leaf)?;
-            combination_in_range(game, bx, combo)
-        }
+        LpEnd::Best { point, combo, .. } => best_in_range(game, bx, point.as_slice(), combo),
     }
 }
 
 /// The run of the box, and the evaluation of the leaf behind its end. `Leaves`, exactly where an operation of either
 /// leaves; `Memory`, where there is none for the run.
+#[tactic(auto, using(crate::proofs::LeafRows::left_within, crate::proofs::LeafRows::left_behind, crate::proofs::LeafRows::evaluated_is))]
 pub fn leaf_run(alloc: Global, game: &Game, bx: &Bx) -> Result<LpEnd, LpFault>
     requires bx { IsBox game.now.vars bx.now }
     requires full { Any IsEmptyRange bx.now → ⊥ }

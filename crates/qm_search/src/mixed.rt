@@ -15,7 +15,7 @@ use qm_frac::Frac;
 use qm_game::{Bx, Game};
 use qm_io::{List, Memory};
 use qm_simplex::{LpEnd, LpFault};
-use qm_trees::{Policy, Refute};
+use qm_trees::{Policy, Refute, values_are_fractions};
 use std::alloc::Global;
 
 /// The leaf of a point: its values of the continuous variables.
@@ -33,8 +33,9 @@ fn prefix_of(alloc: Global, game: &Game, bx: &Bx) -> Result<List<i64>, Memory>
     requires { game.now.wholes ≤ length bx.now }
     ensures { IfOk result (λ prefix. prefix ≡ prefix_in game.now bx.now) }
 {
+    let set = &bx.as_slice()[..game.problem().wholes as usize];
     let mut prefix = List::new(alloc);
-    for range in &bx.as_slice()[..game.problem().wholes as usize] {
+    for range in set {
         prefix.push(range.low)?;
     }
     Ok(prefix)
@@ -49,8 +50,8 @@ fn end_outcome(alloc: Global, game: &Game, bx: &Bx, end: LpEnd) -> Result<Outcom
 {
     match end {
         LpEnd::Void { combo, pivots: _ } => {
-            // that its multipliers are above 0
-            let _entries = combo.entries();
+            // that it is well formed
+            let _void_form = combo.entries();
             Ok(Outcome::Lost(Refute::Close(combo)))
         }
         LpEnd::Best {
@@ -59,12 +60,14 @@ fn end_outcome(alloc: Global, game: &Game, bx: &Bx, end: LpEnd) -> Result<Outcom
             combo,
             pivots: _,
         } => {
-            // that its multipliers are above 0, and that the value is a fraction
-            let _entries = combo.entries();
-            let _value = value.den();
+            // that it is well formed, and that the values are fractions
+            let _best_form = combo.entries();
+            let _positive = value.den();
+            let values = point.as_slice();
+            values_are_fractions(values);
             Ok(Outcome::Reached {
                 value,
-                policy: leaf_of(alloc, game, point.as_slice())?,
+                policy: leaf_of(alloc, game, values)?,
                 refute: Refute::Close(combo),
             })
         }

@@ -1,3 +1,4 @@
 pub mod TwoWords
+pub mod OneCertificate
 pub mod Refusals
 pub mod Answering

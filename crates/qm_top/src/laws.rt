@@ -1,6 +1,10 @@
 ghost use Rattle.std.specs.Prelude.{◌≡◌, ◌⊎◌, ℕ, List};
 ghost use Rattle.qm_model.specs.declared.game.Problem.{Problem};
 ghost use Rattle.qm_normal.specs.Stated.{States};
+ghost use Rattle.qm_certfile.specs.declared.certificate.Certificate.{Certificate};
+ghost use Rattle.qm_certfile.specs.CertificateLines.{certificate_text};
+ghost use Rattle.qm_certfile.specs.Passes.{Passes};
+ghost use Rattle.qm_top.specs.Answers.{Claims};
 ghost use Rattle.qm_top.specs.Refusals.{Refuses};
 
 use qm_text::one_decimal_a_word;
@@ -15,3 +19,11 @@ pub fn stated_or_refused()
 {
     one_decimal_a_word();
 }
+
+/// What is printed with status 0 has one certificate: two that pass for the problem that the bytes state and have the
+/// same text are the same.
+pub fn a_printed_text_has_one_certificate()
+    ensures passing { (bytes : List ℕ) (P : Problem) (c d : Certificate) →
+        States bytes P → Passes P c → Passes P d → certificate_text P c ≡ certificate_text P d → c ≡ d }
+    ensures claimed { (bytes : List ℕ) (P : Problem) (text : List ℕ) → States bytes P → (one other : Claims P text) → one.certificate ≡ other.certificate }
+{}

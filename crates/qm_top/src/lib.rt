@@ -5,6 +5,7 @@
 //! the judgement of `qm_certfile` and what it claims is how the problem ends, or the line of `specs/FaultLines.antt` that
 //! says why there is no problem (`specs/Refusals.antt`) or no answer. Words and bytes decide which of these comes, but for
 //! want of memory (`specs/Completeness.antt`), as any bytes state a problem or are refused, and not both (`stated_or_refused`).
+//! The text of a certificate that is printed has no other certificate that passes (`a_printed_text_has_one_certificate`).
 //! `stated_by` is its first half alone: the game that a text states, or the report that refuses it
 //! (`specs/Stating.antt`). Text, tokens and syntax tree are gone when the search begins.
 #![tactic(auto)]
@@ -19,7 +20,7 @@ mod solve;
 mod stated;
 mod top;
 
-pub use laws::stated_or_refused;
+pub use laws::{a_printed_text_has_one_certificate, stated_or_refused};
 pub use report::Report;
 pub use stated::{Stated, stated_by};
 pub use top::run;

@@ -13,31 +13,31 @@ some_universal_empty-requires c =
 
 pub returns-then-some_universal_empty : goal.returns-then-some_universal_empty
 returns-then-some_universal_empty c =
-    let entries = rw c.entries.ensures.value at c.entries.ensures.ordered in
+    let form = rw c.entries.ensures.value at c.entries.ensures.well_formed in
     let named = rw (c.problem-problem.ensures.value, c.entries.ensures.value) at c.all_uncertain.ensures in
     let some = rw (c.as_slice.ensures, c.as_slice-2.ensures, c.problem-problem.ensures.value) at c.some_universal_empty.ensures in
-    closed_by_range c.args.game.now c.args.bx.now c.args.combo.now entries (sym c.objective.ensures ∙ c.if-objective.false) (sym named ∙ c.if-not-all_uncertain.false)
+    closed_by_range c.args.game.now c.args.bx.now c.args.combo.now form (sym c.objective.ensures ∙ c.if-objective.false) (sym named ∙ c.if-not-all_uncertain.false)
     (sym some ∙ c.if-some_universal_empty.true)
 
 pub returns-in_err-value : goal.returns-in_err-value
 returns-in_err-value c =
-    let entries = rw c.entries.ensures.value at c.entries.ensures.ordered in
+    let form = rw c.entries.ensures.value at c.entries.ensures.well_formed in
     let named = rw (c.problem-problem.ensures.value, c.entries.ensures.value) at c.all_uncertain.ensures in
     let some = rw (c.as_slice.ensures, c.as_slice-2.ensures, c.problem-problem.ensures.value) at c.some_universal_empty.ensures in
     let plain = sym c.objective.ensures ∙ c.if-objective.false in
     let value = rw plain at c.value.ensures in
     let p = err_from_is_err_and c.from_residual.result c.from_residual.ensures.1 in
     rw (p.1, p.2)
-    (value_leaves c.args.game.now c.args.bx.now c.args.combo.now entries plain (sym named ∙ c.if-not-all_uncertain.false) (sym some ∙ c.if-some_universal_empty.false) _
+    (value_leaves c.args.game.now c.args.bx.now c.args.combo.now form plain (sym named ∙ c.if-not-all_uncertain.false) (sym some ∙ c.if-some_universal_empty.false) _
     (sym value ∙ c.in_err-value.was))
 
 pub returns : goal.returns
 returns c =
-    let entries = rw c.entries.ensures.value at c.entries.ensures.ordered in
+    let form = rw c.entries.ensures.value at c.entries.ensures.well_formed in
     let named = rw (c.problem-problem.ensures.value, c.entries.ensures.value) at c.all_uncertain.ensures in
     let some = rw (c.as_slice.ensures, c.as_slice-2.ensures, c.problem-problem.ensures.value) at c.some_universal_empty.ensures in
     let plain = sym c.objective.ensures ∙ c.if-objective.false in
     let value = rw plain at c.value.ensures in
     rw c.is_void.ensures
-    (closed_by_value c.args.game.now c.args.bx.now c.args.combo.now entries plain (sym named ∙ c.if-not-all_uncertain.false) (sym some ∙ c.if-some_universal_empty.false) c.in_ok-value.value
+    (closed_by_value c.args.game.now c.args.bx.now c.args.combo.now form plain (sym named ∙ c.if-not-all_uncertain.false) (sym some ∙ c.if-some_universal_empty.false) c.in_ok-value.value
     (sym value ∙ c.in_ok-value.was))
