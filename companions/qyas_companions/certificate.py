@@ -19,9 +19,11 @@ LONGEST_WORD = 4000
 
 @dataclass(eq=False)
 class Leaf:
-    """All is set: every row holds, and the objective is at least the value."""
+    """All whole variables are set, and here are the values of the continuous ones: every row holds, and the objective is
+    at least the value."""
 
-    __slots__ = ()
+    __slots__ = ("point",)
+    point: Tuple[Fraction, ...]
 
 
 @dataclass(eq=False)
@@ -224,10 +226,10 @@ class TreeReader:
 
     def begin_policy(self, kind: str, words: List[str]) -> Optional[Node]:
         if kind == "leaf":
-            self.count(words, 1)
             if self.depth != len(self.game.wholes):
                 raise self.lines.refuse("a leaf where not all variables are set")
-            return self.share(("leaf",), Leaf())
+            self.count(words, 1 + len(self.game.variables) - self.depth)
+            return self.share(tuple(words), Leaf(self.point(words[1:])))
         if kind == "illegal":
             self.count(words, 1)
             if not self.stack or self.stack[-1].kind != "answer":
@@ -244,6 +246,13 @@ class TreeReader:
         self.push("choose", self.depth).value = value
         self.enter((value, value))
         return None
+
+    def point(self, words: List[str]) -> Tuple[Fraction, ...]:
+        """The values of the continuous variables, each within its bounds, by the rounding of the normal form."""
+        found = tuple(fraction(word, self.lines.number) for word in words)
+        for value, at in zip(found, range(self.depth, len(self.game.variables))):
+            self.fits(value, at)
+        return found
 
     def begin_refutation(self, kind: str, words: List[str]) -> Optional[Node]:
         if kind == "close":
@@ -288,7 +297,7 @@ class TreeReader:
             player = "universal" if variable.is_universal else "existential"
             raise self.lines.refuse(f"the next variable, {variable.name}, is {player}")
 
-    def fits(self, value: int, at: int) -> None:
+    def fits(self, value: Union[int, Fraction], at: int) -> None:
         low, high = self.game.box[at]
         if not low <= value <= high:
             raise self.lines.refuse(f"{value} is outside {low}..{high}, the values of {self.game.variables[at].name}")
@@ -394,8 +403,6 @@ def read(game: Game, data: Iterable[bytes]) -> Certificate:
     """The certificate of a game from the lines of its text; a text that is none, or not of this game, is refused."""
     lines = Lines(data)
     first = lines.next("a claim")
-    if len(game.wholes) < len(game.variables):
-        raise lines.refuse("the problem has continuous variables, for which there are no certificates yet")
     claim, value = first[0], None
     if claim == "optimal" and len(first) == 2:
         value = fraction(first[1], 1)

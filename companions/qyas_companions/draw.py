@@ -13,7 +13,7 @@ from .certificate import Answer, Certificate, Choose, Illegal, Leaf, Node, Over,
 from .explain import UNCHECKED, head, sums_words
 from .faults import FileFault, NoGraphviz, WrongWords
 from .game import Game
-from .tree import closing_words, illegal_words, merged, values
+from .tree import closing_words, continuous_sum, illegal_words, merged, values
 
 MOST_NODES = 300
 LABEL_WIDTH = 34
@@ -107,7 +107,7 @@ class Drawing:
         if isinstance(node, Illegal):
             self.shape(number, "illegal: " + illegal_words(self.game, node), "box", "dashed")
         elif isinstance(node, Leaf):
-            self.shape(number, sums_words(self.game, *place.sums), "plaintext")
+            self.shape(number, self.leaf_words(node, place), "plaintext")
         elif isinstance(node, Split):
             name = self.game.variables[node.variable].name
             self.shape(number, name, "ellipse", "dashed")
@@ -117,6 +117,13 @@ class Drawing:
             box = list(place.box) + list(self.game.box[len(place.box) :])
             self.shape(number, closing_words(self.game, node, box), "plaintext")
         return []
+
+    def leaf_words(self, leaf: Leaf, place: Place) -> str:
+        """The values of the continuous variables, and what the play earns."""
+        added = continuous_sum(self.game, leaf)
+        sums = [total + added for total in place.sums]
+        moves = [f"{self.name(at)} = {value}" for at, value in enumerate(leaf.point, place.depth)]
+        return "\n".join([*moves, sums_words(self.game, *sums)])
 
     def part(self, place: Place, part: Part) -> Tuple[str, Place]:
         path = place.box + ((part.low, part.high),)

@@ -3,7 +3,7 @@
 from __future__ import annotations
 
 from fractions import Fraction
-from typing import Dict, Iterator, List, Optional, Sequence, Tuple
+from typing import Dict, Iterator, List, Optional, Sequence, Tuple, Union
 
 from .certificate import Answer, Certificate, Choose, Close, Illegal, Leaf, Node, Over, Part, Pick, Split
 from .game import Game
@@ -93,6 +93,10 @@ class PolicyExplainer:
                 self.illegal[id(node)] = illegal_words(self.game, node)
             line.add("", f"illegal: {self.illegal[id(node)]}")
         elif isinstance(node, Leaf):
+            for value in node.point:
+                line.add("set", f"{self.name(depth)} = {value}")
+                least, most = (total + self.game.weights.get(depth, Fraction(0)) * value for total in (least, most))
+                depth += 1
             line.add("", sums_words(self.game, least, most))
         return node, depth, least, most
 
@@ -207,7 +211,7 @@ def worst_line(game: Game, policy: Node) -> str:
     return f"Worst play: {moves_words(game, play) or 'no moves'}; {verb(game)} {game.value(play)}"
 
 
-def moves_words(game: Game, play: Sequence[int]) -> str:
+def moves_words(game: Game, play: Sequence[Union[int, Fraction]]) -> str:
     return ", ".join(f"{variable.name} = {value}" for variable, value in zip(game.variables, play))
 
 

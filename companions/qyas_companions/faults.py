@@ -99,10 +99,10 @@ class Memory(Fault):
     status = 10
 
 
-class Unbuilt(Fault):
-    """The problem has continuous variables, which the program doesn't solve yet."""
+class NumberLeaves(Fault):
+    """A number leaves 128 bits in the linear program of a leaf: where it does."""
 
-    status = 11
+    status = 7
 
 
 class Interrupted(Fault):

@@ -3,9 +3,10 @@
 from __future__ import annotations
 
 import re
+from fractions import Fraction
 from typing import Iterable, Iterator, List, Optional, Union
 
-from .certificate import Answer, Certificate, Choose, Illegal, Node
+from .certificate import Answer, Certificate, Choose, Illegal, Leaf, Node
 from .faults import LeftOver, NoPolicy, Unfinished
 from .game import Game
 from .tree import illegal_words, row_place, row_words
@@ -21,7 +22,7 @@ class Play:
             raise NoPolicy(f"the game is {certificate.claim}: there is no policy to follow")
         self.game = game
         self.node: Node = certificate.policy
-        self.values: List[int] = []
+        self.values: List[Union[int, Fraction]] = []
 
     def moves(self) -> List[str]:
         """The policy's next moves, which this makes, each as `NAME = VALUE`."""
@@ -30,6 +31,10 @@ class Play:
             made.append(f"{self.game.variables[len(self.values)].name} = {self.node.value}")
             self.values.append(self.node.value)
             self.node = self.node.below
+        if isinstance(self.node, Leaf):
+            for value in self.node.point:
+                made.append(f"{self.game.variables[len(self.values)].name} = {value}")
+                self.values.append(value)
         return made
 
     def is_asking(self) -> bool:

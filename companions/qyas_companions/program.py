@@ -16,11 +16,11 @@ from .faults import (
     Limit,
     Memory,
     NoProgram,
+    NumberLeaves,
     OutputFault,
     ProgramFault,
     ReadFault,
     TextFault,
-    Unbuilt,
 )
 
 ENDING = (signal.SIGINT, signal.SIGTERM)
@@ -59,7 +59,7 @@ def run(program: str, path: str, clock: Optional[TextIO] = None) -> IO[bytes]:
         status = watched([program, "solve", path], output, clock)
         output.seek(0)
         if status != 0:
-            raise fault_of(status, output.read(2000).decode("latin-1").strip())
+            raise fault_of(status, output.read().decode("latin-1").strip())
         return output
     except BaseException:
         output.close()
@@ -142,10 +142,16 @@ def fault_of(status: int, line: str) -> Exception:
         return Limit(line)
     if status == 10:
         return Memory("memory: it ran out in the program")
-    if status == 11:
-        return Unbuilt("unbuilt: the problem has continuous variables, which the program doesn't solve yet")
+    if status == 7:
+        return NumberLeaves(f"leaves: the linear program of a leaf needs numbers beyond 128 bits {place_of(line)}".strip())
     if status in (-2, -15):
         return Interrupted("the program was interrupted")
     if status == -9:
         return Memory("memory: the program was killed, as it is where memory runs out")
-    return ProgramFault(f"the program ended with status {status}: {line}", status)
+    return ProgramFault(f"the program ended with status {status}: {line[:2000]}", status)
+
+
+def place_of(report: str) -> str:
+    """Where the first of them is met, by the program's report: the prefix of the leaf, and the operation."""
+    lines = [line for line in report.split("\n") if line.startswith(("prefix", "at "))]
+    return f"({', '.join(line[:200] for line in lines)})" if lines else ""

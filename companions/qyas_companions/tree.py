@@ -3,12 +3,13 @@
 from __future__ import annotations
 
 from fractions import Fraction
-from typing import Dict, List, Optional, Sequence, Tuple
+from typing import Dict, List, Optional, Sequence, Tuple, Union
 
 from .certificate import Answer, Choose, Close, Illegal, Leaf, Node, Part, Split
 from .game import Game, GameRow
 
 Entry = Tuple[str, int, Fraction]
+Value = Union[int, Fraction]
 
 
 def merged(parts: Sequence[Part]) -> List[Part]:
@@ -115,9 +116,16 @@ def least_sums(game: Game, policy: Node) -> Dict[int, Fraction]:
             sums[id(node)] = weight * node.value + sums[id(node.below)]
         elif isinstance(node, Answer):
             sums[id(node)] = min((gain(weight, part, sums)[0] for part in answered(node)), default=Fraction(0))
+        elif isinstance(node, Leaf):
+            sums[id(node)] = sign * continuous_sum(game, node)
         else:
             sums[id(node)] = Fraction(0)
     return sums
+
+
+def continuous_sum(game: Game, leaf: Leaf) -> Fraction:
+    """What the continuous variables of a leaf add to the objective."""
+    return sum((game.weights.get(at, Fraction(0)) * v for at, v in enumerate(leaf.point, len(game.wholes))), Fraction(0))
 
 
 def children(node: Node) -> List[Node]:
@@ -140,11 +148,11 @@ def gain(weight: Fraction, part: Part, sums: Dict[int, Fraction]) -> Tuple[Fract
     return weight * value + sums[id(part.below)], value
 
 
-def worst_play(game: Game, policy: Node) -> Optional[List[int]]:
+def worst_play(game: Game, policy: Node) -> Optional[List[Value]]:
     """A play of the policy that earns least; none where the one that is found isn't legal, or there is none."""
     sign = -1 if game.is_minimized else 1
     sums = least_sums(game, policy)
-    play: List[int] = []
+    play: List[Value] = []
     node = policy
     while not isinstance(node, Leaf):
         if isinstance(node, Choose):
@@ -157,4 +165,4 @@ def worst_play(game: Game, policy: Node) -> Optional[List[int]]:
             node = best.below
         else:
             return None
-    return play if game.is_play(play) else None
+    return [*play, *node.point] if game.is_play(play) else None

@@ -13,6 +13,7 @@ import support
 from qyas_companions import command
 
 CREW = str(support.example("crew-after"))
+LEAVES = b"MAXIMIZE .000000007 y ST 1e30 y <= 3\nBOUNDS y <= 2\nORDER y END"
 COMMANDS = ("solve", "explain", "draw", "follow", "convert", "equivalent")
 
 
@@ -79,7 +80,7 @@ class CommandTest(unittest.TestCase):
             for data, status, line in (
                 (b"MAX 2*x", 5, "text 1 6 byte"),
                 (b"MAX ST BOUNDS n <= 1048576\nGENERALS n ORDER n END", 6, "limit domain n"),
-                (b"MAX ST BOUNDS x <= 1 ORDER x END", 11, "unbuilt: the problem has continuous variables, "),
+                (LEAVES, 7, "leaves: the linear program of a leaf needs numbers beyond 128 bits (prefix, at "),
             ):
                 wrong.write_bytes(data)
                 for words in (("solve",), ("explain",), ("follow",), ("draw", "-o", f"{folder}/x.dot")):

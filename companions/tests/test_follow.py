@@ -2,6 +2,7 @@
 
 import random
 import unittest
+from fractions import Fraction
 from typing import Dict, List
 
 import support
@@ -11,10 +12,10 @@ from qyas_companions.follow import Play, follow
 PLAYS = 200
 
 
-def moves_of(said: List[str]) -> Dict[str, int]:
+def moves_of(said: List[str]) -> Dict[str, Fraction]:
     """The policy's moves among the lines."""
     pairs = [line.split(" = ") for line in said if " = " in line and not line.startswith("illegal")]
-    return {name: int(value) for name, value in pairs}
+    return {name: Fraction(value) for name, value in pairs}
 
 
 class FollowTest(unittest.TestCase):

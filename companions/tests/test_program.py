@@ -18,7 +18,7 @@ STATUSES = {
     "4": (faults.OutputFault, "the program couldn't write its output"),
     "6": (faults.Limit, "limit variables 1001"),
     "10": (faults.Memory, "memory: it ran out in the program"),
-    "11": (faults.Unbuilt, "unbuilt: the problem has continuous variables, which the program doesn't solve yet"),
+    "7": (faults.NumberLeaves, "leaves: the linear program of a leaf needs numbers beyond 128 bits"),
     "13": (faults.ProgramFault, "the program ended with status 13: "),
     "77": (faults.ProgramFault, "the program ended with status 77: "),
 }

@@ -5,7 +5,7 @@ import unittest
 
 import support
 from qyas_companions import text
-from qyas_companions.faults import Fault, Limit, ProgramFault, TextFault, Unbuilt
+from qyas_companions.faults import Fault, Limit, NumberLeaves, ProgramFault, TextFault
 from qyas_companions.program import solve_text
 
 FAULTS = {
@@ -70,7 +70,7 @@ def first_line(data: bytes) -> str:
     try:
         with solve_text(data) as output:
             return output.readline().decode()
-    except (Limit, Unbuilt) as fault:
+    except (Limit, NumberLeaves) as fault:
         return str(fault)
 
 

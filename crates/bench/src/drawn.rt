@@ -1,6 +1,9 @@
 use crate::parses::{push_digits, push_name};
 use std::alloc::{AllocError, Global};
 
+/// How many whole variables a mixed problem has.
+const WHOLES: u32 = 20;
+
 // Numbers drawn one after another, which the first decides.
 #[derive(Drop)]
 struct Draws {
@@ -39,6 +42,41 @@ pub fn text_of(alloc: Global, size: u32, seed: u32) -> Result<Vec<u8>, AllocErro
     push_names(&mut text, size, 1)?;
     text.extend_from_slice(b"\nEND\n")?;
     Ok(text)
+}
+
+/// The text of a problem that the seed decides, of twenty whole variables that can only be 0 and so many continuous ones
+/// from 0 to 10 behind them. There are as many rows as continuous variables, each over about half of all variables.
+pub fn mixed_text_of(alloc: Global, size: u32, seed: u32) -> Result<Vec<u8>, AllocError> {
+    let all = size.wrapping_add(WHOLES);
+    let mut draws = Draws {
+        state: u64::from(seed),
+    };
+    let mut text = Vec::new(alloc);
+    text.extend_from_slice(b"MAXIMIZE\n")?;
+    push_objective(&mut text, &mut draws, all)?;
+    text.extend_from_slice(b"\nSUBJECT TO\n")?;
+    for _ in 0..size {
+        push_row(&mut text, &mut draws, all)?;
+    }
+    text.extend_from_slice(b"BOUNDS\n")?;
+    for variable in 1..=all {
+        push_bounds(&mut text, variable)?;
+    }
+    text.extend_from_slice(b"GENERALS")?;
+    push_names(&mut text, WHOLES, 1)?;
+    text.extend_from_slice(b"\nORDER")?;
+    push_names(&mut text, all, 1)?;
+    text.extend_from_slice(b"\nEND\n")?;
+    Ok(text)
+}
+
+fn push_bounds(text: &mut Vec<u8>, variable: u32) -> Result<(), AllocError> {
+    push_name(text, variable)?;
+    if variable <= WHOLES {
+        text.extend_from_slice(b" <= 0\n")
+    } else {
+        text.extend_from_slice(b" <= 10\n")
+    }
 }
 
 fn push_objective(text: &mut Vec<u8>, draws: &mut Draws, size: u32) -> Result<(), AllocError> {

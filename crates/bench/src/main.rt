@@ -5,13 +5,16 @@
 //! asked of a game with budgets of the universal player; or `entries` and how many thousand entries are to be put into a
 //! journal; or `pivots`, the shape of a made tableau and how
 //! many pairs of pivots are to be done on it, the second of each taking the first back; or `runs`, the number of
-//! variables and the seed of a made problem, and how many times its relaxation is to be solved. It is timed from outside.
+//! variables and the seed of a made problem, and how many times its relaxation is to be solved; or `leaves`, the number of
+//! continuous variables and the seed of a made problem with one leaf, and how many times it is to be solved, or
+//! `leaf-runs` for the run of this leaf's relaxation alone. It is timed from outside.
 #![tactic(auto)]
 
 mod drawn;
 mod entries;
 mod games;
 mod legality;
+mod mixed;
 mod operands;
 mod parses;
 mod runs;
@@ -22,6 +25,7 @@ mod work;
 use entries::entered_in;
 use games::reasons_in;
 use legality::completed_in;
+use mixed::Mixed;
 use operands::Operands;
 use parses::rows_in;
 use qm_journal::JournalFault;
@@ -38,6 +42,24 @@ fn main(rt: HostRuntime) -> io::Result<()> {
         [work, size, seed, times] if work.as_str() == "runs" => {
             match Runs::read(size.as_str(), seed.as_str(), times.as_str()) {
                 Some(runs) => match runs.last(alloc) {
+                    Ok(ended) => println!(rt; "{} {}", ended.ending.word(), ended.pivots),
+                    Err(_) => println!(rt; "memory"),
+                },
+                None => println!(rt; "?"),
+            }
+        }
+        [work, size, seed, times] if work.as_str() == "leaves" => {
+            match Mixed::read(size.as_str(), seed.as_str(), times.as_str()) {
+                Some(mixed) => match mixed.found(alloc) {
+                    Ok(found) => println!(rt; "{}", found.word()),
+                    Err(_) => println!(rt; "memory"),
+                },
+                None => println!(rt; "?"),
+            }
+        }
+        [work, size, seed, times] if work.as_str() == "leaf-runs" => {
+            match Mixed::read(size.as_str(), seed.as_str(), times.as_str()) {
+                Some(mixed) => match mixed.ended(alloc) {
                     Ok(ended) => println!(rt; "{} {}", ended.ending.word(), ended.pivots),
                     Err(_) => println!(rt; "memory"),
                 },

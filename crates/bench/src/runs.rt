@@ -44,6 +44,11 @@ impl Ended {
     fn new(ending: Ending, pivots: u64) -> Ended {
         Ended { ending, pivots }
     }
+
+    /// No run.
+    pub fn none() -> Ended {
+        Ended::new(Ending::None, 0)
+    }
 }
 
 /// So many runs at the root of the problem of so many variables that the seed decides.
@@ -68,13 +73,13 @@ impl Runs {
         let text = text_of(alloc, self.size, self.seed).map_err(|_| Memory)?;
         match game_of(alloc, &text) {
             Some(game) => last_on(alloc, &game, self.times),
-            None => Ok(Ended::new(Ending::None, 0)),
+            None => Ok(Ended::none()),
         }
     }
 }
 
-// The game that the text states; none where it states none, or memory runs out.
-fn game_of(alloc: Global, text: &[u8]) -> Option<Game> {
+/// The game that the text states; none where it states none, or memory runs out.
+pub fn game_of(alloc: Global, text: &[u8]) -> Option<Game> {
     if text.len() > MOST {
         return None;
     }
@@ -92,9 +97,10 @@ fn game_of_tree(alloc: Global, text: &[u8], tokens: &[Token], ast: &Ast) -> Opti
     normal(alloc, ast).ok()
 }
 
-fn last_on(alloc: Global, game: &Game, times: u32) -> Result<Ended, Memory> {
+/// How the last of so many runs over the whole box ends.
+pub fn last_on(alloc: Global, game: &Game, times: u32) -> Result<Ended, Memory> {
     let bx = whole_box(alloc, game)?;
-    let mut ended = Ended::new(Ending::None, 0);
+    let mut ended = Ended::none();
     if has_empty(&bx) {
         return Ok(ended);
     }

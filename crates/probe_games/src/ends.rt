@@ -45,7 +45,8 @@ fn end_line(alloc: Global, end: &Result<LpEnd, LpFault>) -> Result<String, Alloc
     }
 }
 
-fn leaves_line(alloc: Global, run: &RunLeaves) -> Result<String, AllocError> {
+/// The pivots until an operation leaves, where it belongs, and the operation.
+pub fn leaves_line(alloc: Global, run: &RunLeaves) -> Result<String, AllocError> {
     let pivots = pivot_words(alloc, run.pivots.as_slice())?;
     let at = place_words(alloc, run.at)?;
     let operation = leaves_text(alloc, run.leaves)?;

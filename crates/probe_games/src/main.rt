@@ -10,7 +10,7 @@
 //! `policy` tells whether a policy passes, as `reaching 2 by choose 0 / leaf`, and `refute` whether a refutation does, as
 //! `for above 2 by close o`; `write` the text of a certificate that is told by its parts, as `of 0 |  | leaf | close o`.
 //! `legal` tells whether the values that are set before a `depth` can be completed to a play; `solve` the certificate,
-//! its lines joined so.
+//! its lines joined so, or the prefix whose leaf run leaves, with the pivots and the operation.
 #![tactic(auto)]
 
 mod answer;

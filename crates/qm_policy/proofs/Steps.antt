@@ -1,12 +1,12 @@
 -- What the answer is from a part on, and small facts of the tests.
-use Rattle.std.proofs.Common.{◌≡◌, ℕ, ◌+◌, ◌*◌, ◌<◌, ◌≤◌, true, List, [], ◌∷◌, length, drop, get_or, All, refl, sym, ap, ◌∙◌, arith, ℤ, pos, unsigned_abs, Ok, Err}
+use Rattle.std.proofs.Common.{◌≡◌, Bool, ℕ, ◌+◌, ◌*◌, ◌<◌, ◌≤◌, true, List, [], ◌∷◌, length, drop, get_or, All, refl, sym, ap, ◌∙◌, arith, ℤ, pos, unsigned_abs, Ok, Err}
 use Rattle.std.specs.Prelude.{◌&&◌, nat_lt, ◌^◌}
 use Rattle.std.proofs.Math.Nat.{div-one, mul-le-mul_left}
 use Rattle.std.proofs.lemmas.List.{drop_more}
 use Rattle.std.proofs.lemmas.List.Elements.{All-cons, All-nil}
 use Rattle.std.proofs.lemmas.List.Sums.{sum_by-cons}
 use Rattle.qm_math.specs.Fraction.{Fraction, whole, is_at_most}
-use Rattle.qm_frac.specs.Checked.{Checked, and_then, added, multiplied}
+use Rattle.qm_frac.specs.Checked.{Checked, and_then, added, divided, multiplied}
 use Rattle.qm_frac.specs.declared.leaves.Leaves.{Leaves}
 use Rattle.qm_frac.specs.Lowest.{IsFrac, IsInRange, lowest_terms, lowest_parts}
 use Rattle.qm_frac.proofs.CheckedLaws.{and_then_assoc}
@@ -21,7 +21,8 @@ use Rattle.qm_model.specs.Sizes.{reach_in_vars, terms_size}
 use Rattle.qm_model.proofs.Sizes.{one_le_reach}
 use Rattle.qm_trees.specs.Verdicts.{answer_of}
 use Rattle.qm_trees.specs.declared.rule.Rule.TheVariants as rule
-use Rattle.qm_trees.specs.Leaves.{add_terms, are_in_bounds, leaf_passes}
+use Rattle.qm_trees.specs.Evaluation.{least_end_by, zero}
+use Rattle.qm_trees.specs.Leaves.{add_terms, are_in_bounds, leaf_objective, leaf_passes, objective_reaches, value_at}
 use Rattle.qm_trees.specs.declared.policy.Policy.{Policy, Answer, Leaf, out-Policy}
 use Rattle.qm_trees.specs.declared.policy.Policy.TheVariants.{rolls-Answer, rolls-Leaf}
 use Rattle.qm_trees.specs.declared.policy.Below.TheViews.{out-roll-Policy}
@@ -104,3 +105,23 @@ coefs_fit xs (t ∷ ts) h =
     let split = sum_by-cons (λ (u : Term). unsigned_abs u.coef * reach_in_vars xs u.var) t ts in
     let more = mul-le-mul_left (unsigned_abs t.coef) (one_le_reach xs t.var) in
     All-cons (λ u. unsigned_abs u.coef < 2 ^ 127) t ts (omega (arith, split, more, h)) (coefs_fit xs ts (omega (arith, split, h)))
+
+-- ---- the objective
+
+-- whether the objective reaches the value goes by what it comes to
+pub objective_reaches_by : (P : Problem) (v : Fraction) (bx : List Range) (point : List Fraction)
+    → and_then (leaf_objective P bx point) (λ w. let z : Checked Bool = Ok (is_at_most v w) in z) ≡ objective_reaches P v bx point
+objective_reaches_by P v bx point =
+    let sum = add_terms (value_at least_end_by P bx point) P.terms zero in
+    and_then_assoc sum (λ s. and_then (added s (whole P.constant)) third) last ∙ by sum
+  where
+    last : Fraction → Checked Bool
+    last w = Ok (is_at_most v w)
+
+    third : Fraction → Checked Fraction
+    third k = divided k (whole P.scale)
+
+    by : (x : Checked Fraction) → and_then x (λ s. and_then (and_then (added s (whole P.constant)) third) last)
+        ≡ and_then x (λ s. and_then (added s (whole P.constant)) (λ k. and_then (third k) last))
+    by (Ok s) = and_then_assoc (added s (whole P.constant)) third last
+    by (Err leaves) = refl

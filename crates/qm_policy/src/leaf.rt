@@ -3,7 +3,7 @@ ghost use Rattle.qm_math.specs.Fraction.{is_at_most, whole};
 ghost use Rattle.qm_model.specs.Linear.{HasVarsBelow};
 ghost use Rattle.qm_model.specs.Sound.{IsSound};
 ghost use Rattle.qm_trees.specs.Evaluation.{zero};
-ghost use Rattle.qm_trees.specs.Leaves.{add_terms, are_in_bounds, leaf_passes, objective_reaches, row_holds, rows_hold, value_at};
+ghost use Rattle.qm_trees.specs.Leaves.{add_terms, are_in_bounds, leaf_objective, leaf_passes, objective_reaches, row_holds, row_sum, rows_hold, value_at};
 ghost use Rattle.qm_model.specs.Points.{continuous_vars};
 ghost use Rattle.qm_policy.specs.Sides.{end_by};
 ghost use Rattle.qm_policy.specs.Steps.{add_term, objective_from};
@@ -73,6 +73,21 @@ fn sum_at(
     Ok(sum)
 }
 
+/// What the row comes to at a leaf, at the ends that make it greatest. Leaves where the first operation leaves.
+pub fn row_sum(
+    problem: &Problem,
+    bx: &[Range],
+    point: &[Frac],
+    row: &Row,
+) -> Result<Frac, Leaves>
+    requires vars { HasVarsBelow (length bx.now) row.now.terms }
+    requires size { All (λ term. unsigned_abs term.coef < 2 ^ 127) row.now.terms }
+    requires point { length bx.now ≡ problem.now.wholes + length point.now }
+    ensures { result ≡ row_sum problem.now bx.now point.now row.now }
+{
+    sum_at(Side::Greatest, problem, bx, point, row.terms.as_slice())
+}
+
 /// Whether the row holds at the ends that make its sum greatest.
 fn row_holds(problem: &Problem, bx: &[Range], point: &[Frac], row: &Row) -> Result<bool, Leaves>
     requires vars { HasVarsBelow (length bx.now) row.now.terms }
@@ -81,7 +96,7 @@ fn row_holds(problem: &Problem, bx: &[Range], point: &[Frac], row: &Row) -> Resu
     requires point { length bx.now ≡ problem.now.wholes + length point.now }
     ensures { result ≡ row_holds problem.now bx.now point.now row.now }
 {
-    let sum = sum_at(Side::Greatest, problem, bx, point, row.terms.as_slice())?;
+    let sum = row_sum(problem, bx, point, row)?;
     Ok(at_most(sum, whole(row.right)))
 }
 
@@ -110,7 +125,19 @@ fn objective_of(problem: &Problem, sum: Frac) -> Result<Frac, Leaves>
     total.div(whole(problem.scale))
 }
 
+/// What the objective comes to at a leaf, at the ends that make it least. Leaves where the first operation leaves.
+pub fn leaf_objective(problem: &Problem, bx: &[Range], point: &[Frac]) -> Result<Frac, Leaves>
+    requires sound { IsSound problem.now }
+    requires ranges { length bx.now ≡ length problem.now.vars }
+    requires point { length bx.now ≡ problem.now.wholes + length point.now }
+    ensures { result ≡ leaf_objective problem.now bx.now point.now }
+{
+    let sum = sum_at(Side::Least, problem, bx, point, problem.terms.as_slice())?;
+    objective_of(problem, sum)
+}
+
 /// Whether the objective reaches the value at the ends that make it least.
+#[tactic(auto, using(crate::proofs::Steps::objective_reaches_by))]
 fn objective_reaches(
     problem: &Problem,
     bx: &[Range],
@@ -122,8 +149,7 @@ fn objective_reaches(
     requires point { length bx.now ≡ problem.now.wholes + length point.now }
     ensures { result ≡ objective_reaches problem.now value bx.now point.now }
 {
-    let sum = sum_at(Side::Least, problem, bx, point, problem.terms.as_slice())?;
-    let objective = objective_of(problem, sum)?;
+    let objective = leaf_objective(problem, bx, point)?;
     Ok(at_most(value, objective))
 }
 

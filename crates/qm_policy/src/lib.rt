@@ -5,9 +5,10 @@
 //! universal one, and at a leaf a point that meets the bounds and rows and reaches the value at the worst ends of the
 //! box. A range without legal values has a tree in place of a policy. Each range that is narrowed is put back.
 //! Over the whole box a policy that passes wins.
+//! `row_sum` and `leaf_objective` are its evaluations at a leaf, one by one.
 //!
 //! Public clauses cite `judge_policy` of `specs/PolicyJudgement` (the order), `IsRightPolicy` of `specs/PolicyRight` (no
-//! order) and `PolicyReaches` of `specs/Reaching`, of qm_trees, and `Wins` of qm_model.
+//! order), `PolicyReaches` of `specs/Reaching` and `specs/Leaves`, of qm_trees, and `Wins` of qm_model.
 #![tactic(auto)]
 
 mod fractions;
@@ -15,5 +16,6 @@ mod leaf;
 mod sides;
 mod walk;
 
+pub use leaf::{leaf_objective, row_sum};
 pub use qm_trees::{Below, Policy, PolicyPart};
 pub use walk::test;

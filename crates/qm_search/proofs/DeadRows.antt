@@ -1,6 +1,6 @@
 -- A dead row alone closes every goal, and no operation leaves.
 use Rattle.std.proofs.Common.{◌≡◌, ℕ, zero as none, suc, List, [], ◌∷◌, All, refl, sym, subst, ap, ◌∙◌, arith, pos, false, true, Ok, Option, Some, None}
-use Rattle.std.specs.Prelude.{IsSomeAnd, IsSome, slice_get}
+use Rattle.std.specs.Prelude.{Any, IsSomeAnd, IsSome, slice_get}
 use Rattle.std.proofs.lemmas.List.Elements.{All-cons, All-nil, All-head, All-tail}
 use Rattle.std.proofs.lemmas.Int.{ints}
 use Rattle.qm_math.specs.Fraction.{whole}
@@ -11,7 +11,7 @@ use Rattle.qm_model.specs.declared.row.Row.{Row}
 use Rattle.qm_model.specs.declared.row_id.RowId.{RowId}
 use Rattle.qm_model.specs.declared.row_id.RowId.TheVariants as id
 use Rattle.qm_model.specs.declared.game.Problem.{Problem}
-use Rattle.qm_model.specs.Boxes.{IsBox, IsDead}
+use Rattle.qm_model.specs.Boxes.{IsBox, IsDead, IsEmptyRange}
 use Rattle.qm_model.specs.Goals.{Goal, IsProper}
 use Rattle.qm_model.specs.Sound.{IsRowOver, IsSound}
 use Rattle.qm_game.specs.Dead.{IsFirstDead}
@@ -21,31 +21,38 @@ use Rattle.qm_trees.specs.declared.refutation.Refute.TheVariants.{rolls-Close}
 use Rattle.qm_trees.specs.declared.refutation.Refute.TheViews.{out-roll-Refute}
 use Rattle.qm_trees.specs.declared.refutation.Refute.TheOpen as node
 use Rattle.qm_trees.specs.Entries.{AreWellFormed, Combination, row_named, weighted_rows}
-use Rattle.qm_trees.specs.Closing.{closing}
+use Rattle.qm_trees.specs.Closing.{Closes, closing}
 use Rattle.qm_trees.specs.RefuteJudgement.{Layer}
 use Rattle.qm_trees.specs.RefuteRight.{AreNamed, IsRightClose, IsCloseInRange, IsRightEnd, IsEndInRange}
 use Rattle.qm_trees.proofs.CombinationCloses.{closing_exact}
 use Rattle.qm_trees.proofs.Multipliers.{entries_positive, weighted_dens}
 use Rattle.qm_trees.proofs.WholeValues.{dead_row_closes}
+use Rattle.qm_combo.proofs.EmptyRanges.{closing_empty}
 use Rattle.qm_search.specs.OutcomeSteps.{Refutes}
 
 -- a refutation that closes at once
 pub closes_at_once : (combo : Combination) → out-Refute (Close combo) ≡ node.Close combo
 closes_at_once combo = ap out-Refute (sym (rolls-Close combo)) ∙ out-roll-Refute (node.Close combo)
 
--- where all variables are set, a combination whose test answers yes refutes the goal
-pub refutes_by : (P : Problem) (depth : ℕ) (bx : List Range) (G : Goal) (combo : Combination) (tree : Refute)
-    → IsSound P → IsProper G → AreWellFormed combo.entries → AreNamed P [] combo.entries
-    → closing P combo.objective (weighted_rows P [] combo.entries) bx G ≡ Ok true → tree ≡ Close combo → Refutes P [] depth bx G tree
-refutes_by P depth bx G combo tree sound proper form named e is =
-    let closes = (closing_exact P combo.objective (weighted_rows P [] combo.entries) bx G (weighted_dens P [] combo.entries (entries_positive combo.entries form.0)) sound.scale_positive proper).0 e in
+-- where all variables are set, a combination that closes the goal refutes it
+pub refutes_from : (P : Problem) (depth : ℕ) (bx : List Range) (G : Goal) (combo : Combination) (tree : Refute) → AreWellFormed combo.entries → AreNamed P [] combo.entries
+    → Closes P combo.objective (weighted_rows P [] combo.entries) bx G → IsCloseInRange P [] G bx combo → tree ≡ Close combo → Refutes P [] depth bx G tree
+refutes_from P depth bx G combo tree form named closes fits is =
     let layer : node.Close combo ≡ out-Refute tree = sym (ap out-Refute is ∙ closes_at_once combo) in
-    let right : IsRightClose P [] G bx combo = (form, named, closes.0) in
-    let fits : IsCloseInRange P [] G bx combo = closes.1 in
+    let right : IsRightClose P [] G bx combo = (form, named, closes) in
     record {
       right = subst (λ (l : Layer). IsRightEnd P [] G bx l) layer right;
       in_range = subst (λ (l : Layer). IsEndInRange P [] G bx l) layer fits;
     }
+
+-- so does one whose test answers yes
+pub refutes_by : (P : Problem) (depth : ℕ) (bx : List Range) (G : Goal) (combo : Combination) (tree : Refute)
+    → IsSound P → IsProper G → AreWellFormed combo.entries → AreNamed P [] combo.entries
+    → closing P combo.objective (weighted_rows P [] combo.entries) bx G ≡ Ok true → tree ≡ Close combo → Refutes P [] depth bx G tree
+refutes_by P depth bx G combo tree sound proper form named e is =
+    let positive = entries_positive combo.entries form.0 in
+    let closes = (closing_exact P combo.objective (weighted_rows P [] combo.entries) bx G (weighted_dens P [] combo.entries positive) sound.scale_positive proper).0 e in
+    refutes_from P depth bx G combo tree form named closes.0 closes.1 is
 
 -- the entry of a row with the multiplier 1
 abbrev pub once : RowId → Entry
@@ -75,6 +82,12 @@ module _ (P : Problem) (depth : ℕ) (bx : List Range) (sound : IsSound P) (box 
       let named = All-cons (λ (entry : Entry). IsSome (row_named P [] entry.row)) (once row) [] there (All-nil (λ (entry : Entry). IsSome (row_named P [] entry.row))) in
       let yes : closing P false (weighted_rows P [] (once row ∷ [])) bx G ≡ Ok true = rw e (dead_row_closes P bx r G h.1 box h.0) in
       refutes_by P depth bx G (record { objective = false; entries = once row ∷ [] }) tree sound proper (once_well_formed row) named yes is
+
+  -- over a box with an empty range no rows are needed
+  pub empty_refutes : (tree : Refute) → Any IsEmptyRange bx → tree ≡ Close (record { objective = false; entries = [] }) → Refutes P [] depth bx G tree
+  empty_refutes tree empty is =
+      let yes : closing P false [] bx G ≡ Ok true = sym (closing_empty P false [] bx G empty) in
+      refutes_by P depth bx G (record { objective = false; entries = [] }) tree sound proper (tt, All-nil (λ (e : Entry). IsFrac e.by)) (All-nil (λ (entry : Entry). IsSome (row_named P [] entry.row))) yes is
 
   -- the first dead row alone refutes the goal
   pub first_dead_refutes : (row : RowId) (tree : Refute) → IsFirstDead P bx (Some row)

@@ -8,3 +8,6 @@ pub mod RightPicks
 pub mod WholeBound
 pub mod DeadRows
 pub mod SetLeaves
+pub mod LeafRows
+pub mod EndBoxes
+pub mod LeafEnds

@@ -1,5 +1,5 @@
 -- A value with a completion is a right pick: the uncertainty rows hold at the worst ends of the box so picked.
-use Rattle.std.proofs.Common.{◌≡◌, ℕ, zero, suc, ◌+◌, ◌<◌, ◌≤◌, List, [], ◌∷◌, ◌++◌, length, get_or, map, take, drop, set, All, arith, refl, sym, ap, subst, ◌∙◌, append-nil, ℤ, pos, negsuc, ◌*ℤ◌}
+use Rattle.std.proofs.Common.{◌≡◌, ℕ, zero, suc, ◌+◌, ◌<◌, ◌≤◌, List, [], ◌∷◌, ◌++◌, length, get_or, map, take, drop, set, All, arith, refl, sym, ap, subst, ◌∙◌, ℤ, pos, negsuc, ◌*ℤ◌}
 use Rattle.std.proofs.Math.IntN.{zero-*ℤ}
 use Rattle.std.proofs.lemmas.Int.{ints}
 use Rattle.std.proofs.lemmas.List.{drop-drop, length-take, length-set}
@@ -12,10 +12,11 @@ use Rattle.qm_model.specs.declared.row.Term.{Term}
 use Rattle.qm_model.specs.declared.variable.Player.TheVariants.{All as Universal}
 use Rattle.qm_model.specs.declared.variable.Var.{Var}
 use Rattle.qm_model.specs.declared.game.Problem.{Problem}
-use Rattle.qm_model.specs.Boxes.{greatest_value, whole_box_of}
+use Rattle.qm_model.specs.Boxes.{greatest_value}
 use Rattle.qm_model.specs.Legal.{universal_part}
 use Rattle.qm_model.specs.Linear.{HasVarsBelow, form}
 use Rattle.qm_model.specs.Plays.{HoldsAt, spread, whole_vars}
+use Rattle.qm_model.specs.Points.{continuous_vars}
 use Rattle.qm_model.specs.Sound.{IsOverUniversal, IsRowOver, IsSound}
 use Rattle.qm_model.proofs.Forms.{sum_over-each}
 use Rattle.qm_model.proofs.Players.{by_player, is_for_all, not_universal}
@@ -110,7 +111,7 @@ module _ (P : Problem) (x : Var) (later : List Var) (depth : ℕ) (bx : List Ran
       let first = below P x later depth bx from_depth here in
       let from_next : later ≡ drop (depth + 1) (whole_vars P) = ap (drop 1) from_depth ∙ drop-drop 1 depth (whole_vars P) in
       let after = completion_within P later (depth + 1) (set bx depth (single v)) from_next (omega (arith, first, length-set bx depth (single v))) completion completes in
-      subst (λ rs. Fit later rs completion) (ap whole_box_of (append-nil later) ∙ sym (later_ranges P x later depth bx from_depth here)) (within_fits later [] completion after)
+      subst (λ rs. Fit later rs completion) (sym (later_ranges P x later depth bx from_depth here)) (within_fits later (continuous_vars P) completion after)
 
   right_pick_of : IsRightPick P later depth bx v completion
   right_pick_of =

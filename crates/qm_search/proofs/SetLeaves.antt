@@ -31,7 +31,7 @@ use Rattle.qm_search.proofs.WholeBound.{bound_is_objective}
 use Rattle.qm_search.proofs.DeadRows.{refutes_by}
 
 -- a policy that ends at once
-ends_at_once : (point : List Fraction) → out-Policy (Leaf point) ≡ node.Leaf point
+pub ends_at_once : (point : List Fraction) → out-Policy (Leaf point) ≡ node.Leaf point
 ends_at_once point = ap out-Policy (sym (rolls-Leaf point)) ∙ out-roll-Policy (node.Leaf point)
 
 module _ (P : Problem) (depth : ℕ) (bx : List Range) (sound : IsSound P) (box : IsBox P.vars bx) (b : Fraction) (is : value_of P true [] bx ≡ Ok (Bound b)) where

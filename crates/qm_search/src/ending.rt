@@ -1,16 +1,18 @@
-ghost use Rattle.std.specs.Prelude.{◌≡◌, IfOk, length};
+ghost use Rattle.std.specs.Prelude.{IfErr, IfOk};
 ghost use Rattle.qm_certfile.specs.Passes.{Passes, ending_of};
 ghost use Rattle.qm_model.specs.declared.game.Problem.{Problem};
 ghost use Rattle.qm_model.specs.Boxes.{whole_box_of};
 ghost use Rattle.qm_model.specs.Endings.{HasEnding};
 ghost use Rattle.qm_model.specs.Plays.{IsPlay, whole_vars};
+ghost use Rattle.qm_search.specs.Faults.{IsRightFault};
 ghost use Rattle.qm_search.specs.OutcomeSteps.{IsOutcome};
 
+use crate::fault::SearchFault;
 use crate::outcome::Outcome;
 use crate::walk::best;
 use qm_certfile::Certificate;
 use qm_game::{Game, Place, whole_box};
-use qm_io::{List, Memory};
+use qm_io::List;
 use qm_legal::{Legality, legal};
 use std::alloc::Global;
 
@@ -37,11 +39,12 @@ fn certified(outcome: Outcome, legal: List<i64>) -> Certificate
     }
 }
 
-/// How the game of whole variables alone ends, by a certificate that passes. `Memory`, where there is none for it.
-pub fn solve(alloc: Global, game: &Game) -> Result<Certificate, Memory>
-    requires { game.now.wholes ≡ length game.now.vars }
+/// How the game ends, by a certificate that passes. `Leave`, only with a complete legal prefix whose leaf run leaves the
+/// range as it says, so never without continuous variables; `Memory`, where there is none for it.
+pub fn solve(alloc: Global, game: &Game) -> Result<Certificate, SearchFault>
     ensures passes { IfOk result (Passes game.now) }
     ensures ending { IfOk result (λ certificate. HasEnding game.now (ending_of certificate)) }
+    ensures fault { IfErr result (IsRightFault game.now) }
 {
     // that the problem is in order
     let _problem = game.problem();

@@ -1,16 +1,20 @@
-ghost use Rattle.std.specs.Prelude.{◌≡◌, [], ◌∷◌, All, IfOk, Ok, false, length, pos, true};
+ghost use Rattle.std.specs.Prelude.{◌≡◌, ◌↔◌, ℕ, [], ◌∷◌, All, IfErr, IfOk, IsTrue, None, Ok, false, length, pos, true};
 ghost use Rattle.qm_math.specs.Fraction.{Fraction, whole};
+ghost use Rattle.qm_game.specs.Dead.{IsFirstDead};
 ghost use Rattle.qm_model.specs.Boxes.{IsBox};
 ghost use Rattle.qm_trees.specs.declared.combination.ComboValue.TheVariants.{Bound};
 ghost use Rattle.qm_trees.specs.declared.refutation.Refute.{Close};
 ghost use Rattle.qm_trees.specs.Evaluation.{value_of};
+ghost use Rattle.qm_search.specs.Faults.{IsRightFault};
 ghost use Rattle.qm_search.specs.OutcomeSteps.{IsOutcome};
-ghost use Rattle.qm_search.specs.PlaceSteps.{IsSingle};
+ghost use Rattle.qm_search.specs.PlaceSteps.{IsEndPlace, IsSingle};
 
+use crate::fault::SearchFault;
+use crate::mixed::mixed_outcome;
 use crate::outcome::Outcome;
 use qm_combo::value;
 use qm_frac::Frac;
-use qm_game::{Bx, Game, RowId, row_dead};
+use qm_game::{Bx, Game, RowId, has_empty, row_dead};
 use qm_io::{List, Memory};
 use qm_trees::{Combo, ComboValue, Entry, Policy, Refute};
 use std::alloc::Global;
@@ -51,27 +55,52 @@ fn closed_by(alloc: Global, row: RowId) -> Result<Refute, Memory>
     Ok(Refute::Close(combo))
 }
 
-/// The outcome where all variables are set: the first row that doesn't hold closes it; else the objective alone does.
-pub fn outcome_at_end(alloc: Global, game: &Game, bx: &Bx) -> Result<Outcome, Memory>
+/// Whether no variable is continuous.
+fn is_all_whole(game: &Game) -> bool
+    ensures { IsTrue result ↔ (game.now.wholes ≡ length game.now.vars) }
+{
+    let problem = game.problem();
+    problem.wholes as usize == problem.vars.len()
+}
+
+/// The outcome where all variables are set and no row is dead: the objective alone bounds it.
+fn whole_outcome(alloc: Global, game: &Game, bx: &Bx) -> Outcome
     requires all_whole { game.now.wholes ≡ length game.now.vars }
     requires bx { IsBox game.now.vars bx.now }
     requires set { All IsSingle bx.now }
-    ensures { IfOk result (IsOutcome game.now [] (length game.now.vars) bx.now) }
+    requires alive { IsFirstDead game.now bx.now None }
+    ensures { (depth : ℕ) → IsOutcome game.now [] depth bx.now result }
 {
     // that the problem is in order
     let _problem = game.problem();
-    if let Some(row) = row_dead(game, bx) {
-        return Ok(Outcome::Lost(closed_by(alloc, row)?));
-    }
     let combo = Combo::new(alloc, true);
     let bound = objective_bound(game, bx, &combo);
     // that its denominator is positive
     let _positive = bound.den();
-    Ok(Outcome::Reached {
+    Outcome::Reached {
         value: bound,
         policy: Policy::Leaf {
             point: List::new(alloc),
         },
         refute: Refute::Close(combo),
-    })
+    }
+}
+
+/// The outcome where all whole variables are set. An empty range closes it without rows, else the first dead row does;
+/// else the objective alone, where no variable is continuous, or its leaf run.
+pub fn outcome_at_end(alloc: Global, game: &Game, bx: &Bx) -> Result<Outcome, SearchFault>
+    requires { IsEndPlace game.now bx.now }
+    ensures outcome { (depth : ℕ) → IfOk result (IsOutcome game.now [] depth bx.now) }
+    ensures fault { IfErr result (IsRightFault game.now) }
+{
+    if has_empty(bx) {
+        return Ok(Outcome::Lost(Refute::Close(Combo::new(alloc, false))));
+    }
+    if let Some(row) = row_dead(game, bx) {
+        return Ok(Outcome::Lost(closed_by(alloc, row)?));
+    }
+    if is_all_whole(game) {
+        return Ok(whole_outcome(alloc, game, bx));
+    }
+    mixed_outcome(alloc, game, bx)
 }

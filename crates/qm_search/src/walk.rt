@@ -1,20 +1,21 @@
-ghost use Rattle.std.specs.Prelude.{◌≡◌, ◌+◌, ◌<◌, IfOk, drop, length, slice_set};
+ghost use Rattle.std.specs.Prelude.{◌≡◌, ◌+◌, ◌<◌, IfErr, IfOk, drop, length, slice_set};
 ghost use Rattle.qm_math.specs.Ranges.{IsBetween};
 ghost use Rattle.qm_model.specs.Ranges.{range_at, single};
 ghost use Rattle.qm_model.specs.declared.variable.Player.TheVariants.{Exists, All as Universal};
 ghost use Rattle.qm_legal.specs.SearchSteps.{SetsNext};
 ghost use Rattle.qm_search.specs.AnswerSteps.{IsRightAnswer};
+ghost use Rattle.qm_search.specs.Faults.{IsRightFault};
 ghost use Rattle.qm_search.specs.OutcomeSteps.{IsOutcome};
 ghost use Rattle.qm_search.specs.PlaceSteps.{Completes, IsSearchBox, IsSearchPlace, next_value};
 
 use crate::answer::{Answer, Reply, legal_answer};
 use crate::answers::Answers;
 use crate::choices::Choices;
+use crate::fault::SearchFault;
 use crate::leaf::outcome_at_end;
 use crate::legality::{is_known, later_values, legality, list_of};
 use crate::outcome::Outcome;
 use qm_game::{Bx, Place};
-use qm_io::Memory;
 use qm_legal::Legality;
 use qm_model::{is_for_all, single};
 use std::alloc::Global;
@@ -27,9 +28,10 @@ pub fn best(
     here: Place<'_>,
     bx: &mut Bx,
     completion: &[i64],
-) -> Result<Outcome, Memory>
+) -> Result<Outcome, SearchFault>
     requires { IsSearchPlace here.game.now here.depth bx.old completion.now }
     ensures outcome { IfOk result (IsOutcome here.entry.game.now here.entry.rest.now here.entry.depth bx.old) }
+    ensures fault { IfErr result (IsRightFault here.entry.game.now) }
     ensures same { bx.new ≡ bx.old }
 {
     match here.rest.split_first() {
@@ -52,12 +54,13 @@ fn visit(
     bx: &mut Bx,
     completion: &[i64],
     value: i64,
-) -> Result<Outcome, Memory>
+) -> Result<Outcome, SearchFault>
     requires bx { IsSearchBox here.game.now here.depth bx.old }
     requires some { 0 < length here.rest.now }
     requires within { IsBetween (range_at bx.old here.depth).low (range_at bx.old here.depth).high value }
     requires completes { Completes here.game.now (here.depth + 1) (slice_set bx.old here.depth (single value)) completion.now }
     ensures outcome { IfOk result (IsOutcome here.entry.game.now (drop 1 here.entry.rest.now) (here.entry.depth + 1) (slice_set bx.old here.entry.depth (single value))) }
+    ensures fault { IfErr result (IsRightFault here.entry.game.now) }
     ensures same { bx.new ≡ bx.old }
 {
     let before = here.range(bx);
@@ -74,10 +77,11 @@ fn best_choice(
     here: Place<'_>,
     bx: &mut Bx,
     completion: &[i64],
-) -> Result<Outcome, Memory>
+) -> Result<Outcome, SearchFault>
     requires place { IsSearchPlace here.game.now here.depth bx.old completion.now }
     requires player { SetsNext Exists here.rest.now }
     ensures outcome { IfOk result (IsOutcome here.entry.game.now here.entry.rest.now here.entry.depth bx.old) }
+    ensures fault { IfErr result (IsRightFault here.entry.game.now) }
     ensures same { bx.new ≡ bx.old }
 {
     let covered = here.range(bx);
@@ -86,7 +90,7 @@ fn best_choice(
         let next = visit(alloc, here, bx, completion, choice)?;
         choices = choices.with(choice, next)?;
     }
-    choices.outcome(alloc)
+    Ok(choices.outcome(alloc)?)
 }
 
 /// What one value of the universal player's comes to.
@@ -97,23 +101,24 @@ fn answer_to(
     bx: &mut Bx,
     completion: &[i64],
     value: i64,
-) -> Result<Answer, Memory>
+) -> Result<Answer, SearchFault>
     requires place { IsSearchPlace here.game.now here.depth bx.old completion.now }
     requires player { SetsNext Universal here.rest.now }
     requires within { IsBetween (range_at bx.old here.depth).low (range_at bx.old here.depth).high value }
     ensures answer { IfOk result (IsRightAnswer here.entry.game.now here.entry.rest.now here.entry.depth bx.old (next_value completion.now) value) }
+    ensures fault { IfErr result (IsRightFault here.entry.game.now) }
     ensures same { bx.new ≡ bx.old }
 {
     if is_known(here.game, completion, value) {
         let later = later_values(completion);
         let outcome = visit(alloc, here, bx, later, value)?;
-        return legal_answer(alloc, value, list_of(alloc, later)?, outcome);
+        return Ok(legal_answer(alloc, value, list_of(alloc, later)?, outcome)?);
     }
     match legality(alloc, here, bx, value)? {
         Legality::Illegal(tree) => Ok(Answer::Kept(Reply::Illegal(tree))),
         Legality::Completion(values) => {
             let outcome = visit(alloc, here, bx, values.as_slice(), value)?;
-            legal_answer(alloc, value, values, outcome)
+            Ok(legal_answer(alloc, value, values, outcome)?)
         }
     }
 }
@@ -125,10 +130,11 @@ fn worst_answer(
     here: Place<'_>,
     bx: &mut Bx,
     completion: &[i64],
-) -> Result<Outcome, Memory>
+) -> Result<Outcome, SearchFault>
     requires place { IsSearchPlace here.game.now here.depth bx.old completion.now }
     requires player { SetsNext Universal here.rest.now }
     ensures outcome { IfOk result (IsOutcome here.entry.game.now here.entry.rest.now here.entry.depth bx.old) }
+    ensures fault { IfErr result (IsRightFault here.entry.game.now) }
     ensures same { bx.new ≡ bx.old }
 {
     let covered = here.range(bx);

@@ -32,7 +32,7 @@ use Rattle.qm_simplex.proofs.PointValues.{form_den}
 use Rattle.qm_trees.proofs.CombinationSound.{form_of-combined}
 
 -- ---- forms that have one place
-form_same : (f g : ℕ → Fraction) (var : ℕ) (xs : List Fraction) → ((n : ℕ) → IsSame (f n) (g n)) → IsSame (form_of f var xs) (form_of g var xs)
+pub form_same : (f g : ℕ → Fraction) (var : ℕ) (xs : List Fraction) → ((n : ℕ) → IsSame (f n) (g n)) → IsSame (form_of f var xs) (form_of g var xs)
 form_same f g var [] e = refl
 form_same f g var (x ∷ xs) e =
     sum_of-same (product_of (f var) x) (form_of f (suc var) xs) (product_of (g var) x) (form_of g (suc var) xs)
@@ -65,10 +65,10 @@ single_form f k var (suc j) (x ∷ xs) fd kd d here others =
     (fd var, (All-head HasPositiveDen x xs d, (form_den f (suc var) xs fd xsd, (kd, (entry_den xs j xsd, tt)))))
     (others var (λ e. omega (arith, e)), (rest, tt)) refl
 
-abbrev one_at : ℕ → ℕ → Fraction
+abbrev pub one_at : ℕ → ℕ → Fraction
 one_at c i = if c == i then whole (pos 1) else whole (pos 0)
 
-one_den : (c i : ℕ) → 0 < (one_at c i).den
+pub one_den : (c i : ℕ) → 0 < (one_at c i).den
 one_den c i = by_test (c == i)
   where
     by_test : (b : Bool) → 0 < (let z : Fraction = if b then whole (pos 1) else whole (pos 0) in z).den
@@ -89,7 +89,7 @@ none_there c n other = by_test (c == n) refl
     by_test true e = let same : n ≡ c = grind (arith, nat_tests) in absurd (other same)
     by_test false e = refl
 
-picked : (c : ℕ) (vs : List Fraction) → All HasPositiveDen vs → IsSame (form_of (one_at c) 0 vs) (entry_of vs c)
+pub picked : (c : ℕ) (vs : List Fraction) → All HasPositiveDen vs → IsSame (form_of (one_at c) 0 vs) (entry_of vs c)
 picked c vs d =
     let at : c ≡ 0 + c = omega arith in
     let v = entry_of vs c in

@@ -17,3 +17,6 @@ pub mod RightEnds
 pub mod Endings
 pub mod FirstEntries
 pub mod ClosingSums
+pub mod NamedEntries
+pub mod TermForms
+pub mod LeafPoints

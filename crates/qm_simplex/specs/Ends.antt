@@ -34,6 +34,10 @@ abbrev pub pivots_of : LpEnd → ℕ
 pivots_of (Best point value combo pivots) = pivots
 pivots_of (Void combo pivots) = pivots
 
+abbrev pub combination_of : LpEnd → Combination
+combination_of (Best point value combo pivots) = combo
+combination_of (Void combo pivots) = combo
+
 -- how many finished pivots an answer may have at most: 2 to the number of quantities
 abbrev pub most_pivots : Problem → List Row → List Range → ℕ
 most_pivots P cuts bx = 2 ^ length (quantities P cuts bx)

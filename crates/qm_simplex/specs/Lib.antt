@@ -2,6 +2,9 @@ pub mod Relaxation
 pub mod Runs
 pub mod Multipliers
 pub mod Stops
+pub mod Listed
 pub mod RunSteps
 pub mod Ends
 pub mod Exact
+pub mod LeafRuns
+pub mod RightLeaves

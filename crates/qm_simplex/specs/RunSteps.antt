@@ -8,7 +8,7 @@ use Rattle.qm_tableau.specs.declared.choice.Choice.TheVariants as choice
 use Rattle.qm_tableau.specs.Tables.{Table}
 use Rattle.qm_tableau.specs.Rule.{chosen}
 use Rattle.qm_tableau.specs.Pivoting.{pivoted}
-use Rattle.qm_simplex.specs.declared.answers.LpEnd.{LpEnd}
+use Rattle.qm_simplex.specs.declared.answers.LpRun.{LpRun}
 use Rattle.qm_simplex.specs.declared.answers.LpFault.{LpFault}
 use Rattle.qm_simplex.specs.declared.answers.LpFault.TheVariants as fault
 use Rattle.qm_simplex.specs.declared.stuck.Stuck.{Stuck}
@@ -45,8 +45,8 @@ RunsTo t (Ok run) u = Leads t run.pivots u × (chosen u ≡ Ok (choice_at_end ru
 RunsTo t (Err (fault.Leaves leaves)) u = (P : Problem) (cuts : List Row) (bx : List Range) → IsRunFrom P cuts bx t (Err leaves)
 RunsTo t (Err fault.Memory) u = Unit {0}
 
--- memory is wanting, or the answer is this
-abbrev pub Tells : Option Answer → Result LpEnd LpFault → Type 0
-Tells expected (Ok end) = expected ≡ Some (Ok end)
-Tells expected (Err (fault.Leaves leaves)) = expected ≡ Some (Err leaves)
-Tells expected (Err fault.Memory) = Unit {0}
+-- memory is wanting, or the answer is this, behind these pivots
+abbrev pub Tells : List Pivot → Option Answer → Result LpRun LpFault → Type 0
+Tells pivots expected (Ok run) = (run.pivots ≡ pivots) × (expected ≡ Some (Ok run.end))
+Tells pivots expected (Err (fault.Leaves leaves)) = expected ≡ Some (Err leaves)
+Tells pivots expected (Err fault.Memory) = Unit {0}

@@ -50,6 +50,13 @@ pub enum LpEnd {
     },
 }
 
+/// A run to its end: how it ends, and the pivots until then.
+#[derive(Debug, Drop)]
+pub struct LpRun {
+    pub end: LpEnd,
+    pub pivots: List<(u32, u32)>,
+}
+
 /// Why there is no end.
 #[derive(Debug, Drop, Error)]
 pub enum LpFault {

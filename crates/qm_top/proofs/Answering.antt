@@ -20,13 +20,12 @@ use Rattle.qm_normal.specs.Normal.{normal_form}
 use Rattle.qm_normal.specs.Stated.{States}
 use Rattle.qm_normal.proofs.StatedOnce.{one_problem}
 use Rattle.qm_parse.proofs.OneSymbols.{OneDecimal}
-use Rattle.qm_top.specs.Built.{IsBuilt}
 use Rattle.qm_top.specs.declared.command.Command.{Command}
 use Rattle.qm_top.specs.declared.command.Command.TheVariants.{Solve}
 use Rattle.qm_top.specs.Words.{Asks}
 use Rattle.qm_top.specs.Lines.{line}
-use Rattle.qm_top.specs.Completeness.{IsComplete, IsDue, IsNoMemory, IsReport}
-use Rattle.qm_top.specs.Answers.{Claims, IsAnswer, Reading, Solves, SolvesProblem, SolvesText, misused, solved, whole_text, longer, failed, no_room, claimed, unbuilt, stated, refused, out_of_memory}
+use Rattle.qm_top.specs.Completeness.{IsDueTo, IsDue, IsNoMemory, IsReport}
+use Rattle.qm_top.specs.Answers.{Claims, IsAnswer, Reading, Solves, SolvesProblem, SolvesText, misused, solved, whole_text, longer, failed, no_room, claimed, left, stated, refused, out_of_memory}
 use Rattle.qm_top.specs.declared.report.Report.{Report}
 use Rattle.qm_top.specs.FaultLines.{TellsNormal}
 use Rattle.qm_top.specs.Refusals.{Refuses, beyond}
@@ -86,14 +85,10 @@ length_told read status text bytes told long still (longer came consumed more is
 length_told read status text bytes told long still (failed some rose is line) = absurd (still rose)
 length_told read status text bytes told long still (no_room some is line) = inr (is, line)
 
--- how a problem is solved, where it is one that can be
-built_answered : (P : Problem) (status : ℕ) (text : List ℕ) → IsBuilt P → SolvesProblem P status text → (status ≡ 0) × Claims P text
-built_answered P status text can (claimed is claims zero) = (zero, claims)
-built_answered P status text can (unbuilt cannot is line) = absurd (cannot can)
-
-unbuilt_answered : (P : Problem) (status : ℕ) (text : List ℕ) → ¬ IsBuilt P → SolvesProblem P status text → IsReport 11 (line (codes "unbuilt")) status text
-unbuilt_answered P status text cannot (claimed can claims zero) = absurd (cannot can)
-unbuilt_answered P status text cannot (unbuilt so is line) = (is, line)
+-- without continuous variables no number leaves
+whole_answered : (P : Problem) (status : ℕ) (text : List ℕ) → P.wholes ≡ length P.vars → SolvesProblem P status text → (status ≡ 0) × Claims P text
+whole_answered P status text whole (claimed claims zero) = (zero, claims)
+whole_answered P status text whole (left leave right is told) = absurd (omega (arith, whole, right.continuous))
 
 -- the problem that is answered is the one that the bytes state
 stated_answered : OneDecimal → (bytes : List ℕ) (P : Problem) (status : ℕ) (text : List ℕ) → States bytes P → SolvesText bytes status text → SolvesProblem P status text ⊎ IsNoMemory status text
@@ -102,13 +97,9 @@ stated_answered law bytes P status text states (stated Q also answer) =
 stated_answered law bytes P status text states (refused refusal) = absurd (not_refused law bytes P status text states refusal)
 stated_answered law bytes P status text states (out_of_memory is line) = inr (is, line)
 
-built_text_answered : OneDecimal → (bytes : List ℕ) (P : Problem) (status : ℕ) (text : List ℕ) → States bytes P → IsBuilt P → SolvesText bytes status text → ((status ≡ 0) × Claims P text) ⊎ IsNoMemory status text
-built_text_answered law bytes P status text states can answer =
-    elim (stated_answered law bytes P status text states answer) [ inl solves ↦ inl (built_answered P status text can solves) | inr is ↦ inr is ]
-
-unbuilt_text_answered : OneDecimal → (bytes : List ℕ) (P : Problem) (status : ℕ) (text : List ℕ) → States bytes P → ¬ IsBuilt P → SolvesText bytes status text → IsReport 11 (line (codes "unbuilt")) status text ⊎ IsNoMemory status text
-unbuilt_text_answered law bytes P status text states cannot answer =
-    elim (stated_answered law bytes P status text states answer) [ inl solves ↦ inl (unbuilt_answered P status text cannot solves) | inr is ↦ inr is ]
+whole_text_answered : OneDecimal → (bytes : List ℕ) (P : Problem) (status : ℕ) (text : List ℕ) → States bytes P → P.wholes ≡ length P.vars → SolvesText bytes status text → ((status ≡ 0) × Claims P text) ⊎ IsNoMemory status text
+whole_text_answered law bytes P status text states whole answer =
+    elim (stated_answered law bytes P status text states answer) [ inl solves ↦ inl (whole_answered P status text whole solves) | inr is ↦ inr is ]
 
 refused_text_answered : OneDecimal → (bytes : List ℕ) (status other : ℕ) (text another : List ℕ) → Refuses bytes status text → SolvesText bytes other another → AreSame other status another text ⊎ IsNoMemory other another
 refused_text_answered law bytes status other text another refusal (stated P states answer) = absurd (not_refused law bytes P status text states refusal)
@@ -119,12 +110,12 @@ refused_text_answered law bytes status other text another refusal (out_of_memory
 bytes_answered : OneDecimal → (read : Reading) (status : ℕ) (text bytes : List ℕ) → read.before ≡ Some bytes → ¬ Rose read.faults_before read.faults_after → Solves read status text → IsDue bytes status text
 bytes_answered law read status text bytes told still solves = record {
   long = λ many. length_told read status text bytes told many still solves;
-  built = λ P short states can. built_text_answered law bytes P status text states can (text_told read status text bytes told short still solves);
-  unbuilt = λ P short states cannot. unbuilt_text_answered law bytes P status text states cannot (text_told read status text bytes told short still solves);
+  solved = λ P short states. stated_answered law bytes P status text states (text_told read status text bytes told short still solves);
+  whole = λ P short states all. whole_text_answered law bytes P status text states all (text_told read status text bytes told short still solves);
   refused = λ other why short refusal. refused_text_answered law bytes other status why text refusal (text_told read status text bytes told short still solves);
 }
 
-complete_answer : OneDecimal → (words : List (List ℕ)) (read : Reading) (status : ℕ) (text : List ℕ) → IsAnswer words read status text → IsComplete words read status text
+complete_answer : OneDecimal → (words : List (List ℕ)) (read : Reading) (status : ℕ) (text : List ℕ) → IsAnswer words read status text → IsDueTo words read status text
 complete_answer law words read status text (misused none unread is line) =
     record { misused = λ no. (is, line); solve = λ bytes asks told still. absurd (none Solve asks) }
 complete_answer law words read status text (solved asks solves) =
@@ -133,7 +124,7 @@ complete_answer law words read status text (solved asks solves) =
 -- the sink took the text of a report
 pub complete_report : OneDecimal → (before after : Option (List ℕ)) (words : List (List ℕ)) (read : Reading) (status due : ℕ) (text told : List ℕ)
     → IsAnswer words read due told → status ≡ due → text ≡ told → Appends before after text
-    → (taken : List ℕ) × Appends before after taken × IsComplete words read status taken
+    → (taken : List ℕ) × Appends before after taken × IsDueTo words read status taken
 complete_report law before after words read status due text told answer is same taken =
     let with_text : IsAnswer words read due text = subst (λ t. IsAnswer words read due t) (sym same) answer in
     (text, taken, complete_answer law words read status text (subst (λ n. IsAnswer words read n text) (sym is) with_text))

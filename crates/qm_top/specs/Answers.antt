@@ -11,12 +11,15 @@ use Rattle.qm_normal.specs.Stated.{States}
 use Rattle.qm_certfile.specs.declared.certificate.Certificate.{Certificate}
 use Rattle.qm_certfile.specs.CertificateLines.{certificate_text}
 use Rattle.qm_certfile.specs.Passes.{AnswersPlay, Passes, ending_of}
+use Rattle.qm_search.specs.declared.fault.Leave.{Leave}
+use Rattle.qm_search.specs.Faults.{IsAny}
+use Rattle.qm_simplex.specs.RightLeaves.{IsRightLeave}
 use Rattle.qm_top.specs.declared.command.Command.{Command}
 use Rattle.qm_top.specs.declared.command.Command.TheVariants.{Solve}
 use Rattle.qm_top.specs.Words.{Asks}
+use Rattle.qm_top.specs.LeaveLines.{leave_text}
 use Rattle.qm_top.specs.Lines.{line}
 use Rattle.qm_top.specs.Refusals.{Refuses}
-use Rattle.qm_top.specs.Built.{IsBuilt}
 
 -- what became of a source: the bytes that it had left and has left, where it tells them, and its faults
 pub record Reading : Type 0 where
@@ -42,11 +45,11 @@ pub record Claims (P : Problem) (text : List ℕ) : Type 0 where
   pub ending : HasEnding P (ending_of certificate)
   pub answers : (us : List ℤ) → IsPlay P us → AnswersPlay P us certificate
 
--- what `solve` answers about a problem
+-- What `solve` answers about a problem: its ending, or the first operation that leaves the range in the leaf run of a
+-- complete prefix, which only a problem with continuous variables has.
 pub data SolvesProblem (P : Problem) (status : ℕ) (text : List ℕ) : Type 0 where
-  claimed : IsBuilt P → Claims P text → status ≡ 0 → SolvesProblem P status text
-  -- it is none that can be solved yet
-  unbuilt : ¬ IsBuilt P → status ≡ 11 → text ≡ line (codes "unbuilt") → SolvesProblem P status text
+  claimed : Claims P text → status ≡ 0 → SolvesProblem P status text
+  left : (leave : Leave) → IsRightLeave P IsAny leave.prefix leave.run → status ≡ 7 → text ≡ leave_text leave → SolvesProblem P status text
 
 -- what `solve` answers about the whole bytes of a problem
 pub data SolvesText (bytes : List ℕ) (status : ℕ) (text : List ℕ) : Type 0 where

@@ -5,8 +5,7 @@ use Rattle.qm_model.specs.declared.game.Problem.{Problem}
 use Rattle.qm_normal.specs.Stated.{States}
 use Rattle.qm_top.specs.declared.command.Command.{Command}
 use Rattle.qm_top.specs.declared.command.Command.TheVariants.{Solve}
-use Rattle.qm_top.specs.Answers.{Claims, Reading}
-use Rattle.qm_top.specs.Built.{IsBuilt}
+use Rattle.qm_top.specs.Answers.{Claims, Reading, SolvesProblem}
 use Rattle.qm_top.specs.Lines.{line}
 use Rattle.qm_top.specs.Refusals.{Refuses}
 use Rattle.qm_top.specs.Words.{Asks}
@@ -23,11 +22,12 @@ IsReport due told status text = (status ≡ due) × (text ≡ told)
 -- status and one text, and not both (`stated_or_refused`).
 pub record IsDue (bytes : List ℕ) (status : ℕ) (text : List ℕ) : Type 0 where
   pub long : 4194304 < length bytes → IsReport 6 (line (codes "limit problem")) status text ⊎ IsNoMemory status text
-  pub built : (P : Problem) → length bytes ≤ 4194304 → States bytes P → IsBuilt P → ((status ≡ 0) × Claims P text) ⊎ IsNoMemory status text
-  pub unbuilt : (P : Problem) → length bytes ≤ 4194304 → States bytes P → ¬ IsBuilt P → IsReport 11 (line (codes "unbuilt")) status text ⊎ IsNoMemory status text
+  pub solved : (P : Problem) → length bytes ≤ 4194304 → States bytes P → SolvesProblem P status text ⊎ IsNoMemory status text
+  -- without continuous variables no number leaves
+  pub whole : (P : Problem) → length bytes ≤ 4194304 → States bytes P → P.wholes ≡ length P.vars → ((status ≡ 0) × Claims P text) ⊎ IsNoMemory status text
   pub refused : (due : ℕ) (told : List ℕ) → length bytes ≤ 4194304 → Refuses bytes due told → IsReport due told status text ⊎ IsNoMemory status text
 
 -- the same by the words; where they are no form, the source tells nothing about the answer
-pub record IsComplete (words : List (List ℕ)) (problem : Reading) (status : ℕ) (text : List ℕ) : Type 0 where
+pub record IsDueTo (words : List (List ℕ)) (problem : Reading) (status : ℕ) (text : List ℕ) : Type 0 where
   pub misused : ((command : Command) → ¬ Asks command words) → IsReport 2 (line (codes "usage: qyas solve FILE")) status text
   pub solve : (bytes : List ℕ) → Asks Solve words → problem.before ≡ Some bytes → ¬ Rose problem.faults_before problem.faults_after → IsDue bytes status text

@@ -4,6 +4,6 @@ pub mod FaultLines
 pub mod Refusals
 pub mod Report
 pub mod Stating
-pub mod Built
+pub mod LeaveLines
 pub mod Answers
 pub mod Completeness

@@ -1,7 +1,7 @@
 -- The status and the text of a report.
 use Rattle.std.specs.Prelude.{ℕ, List, codes}
 use Rattle.qm_top.specs.declared.report.Report.{Report}
-use Rattle.qm_top.specs.declared.report.Report.TheVariants.{Usage, ReadProblem, Text, Long, Limit, Unbuilt, Memory, Certificate}
+use Rattle.qm_top.specs.declared.report.Report.TheVariants.{Usage, ReadProblem, Text, Long, Limit, Leaves, Memory, Certificate}
 use Rattle.qm_top.specs.Lines.{line}
 
 abbrev pub status_of : Report → ℕ
@@ -10,7 +10,7 @@ status_of ReadProblem = 3
 status_of (Text why) = 5
 status_of Long = 6
 status_of (Limit why) = 6
-status_of Unbuilt = 11
+status_of (Leaves at) = 7
 status_of Memory = 10
 status_of (Certificate text) = 0
 
@@ -20,6 +20,6 @@ text_of ReadProblem = line (codes "read problem")
 text_of (Text why) = why
 text_of Long = line (codes "limit problem")
 text_of (Limit why) = why
-text_of Unbuilt = line (codes "unbuilt")
+text_of (Leaves at) = at
 text_of Memory = line (codes "memory")
 text_of (Certificate text) = text

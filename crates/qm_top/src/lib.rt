@@ -10,10 +10,10 @@
 //! (`specs/Stating.antt`). Text, tokens and syntax tree are gone when the search begins.
 #![tactic(auto)]
 
-mod built;
 mod command;
 mod fault_lines;
 mod laws;
+mod leave_lines;
 mod refusal;
 mod report;
 mod solve;

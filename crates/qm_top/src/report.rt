@@ -16,8 +16,8 @@ pub enum Report {
     Long,
     /// The problem is beyond another limit: the line that says which.
     Limit(List<u8>),
-    /// The problem is of a form that can't be solved yet.
-    Unbuilt,
+    /// A number leaves the range: the lines that say where.
+    Leaves(List<u8>),
     /// Memory ran out.
     Memory,
     /// The ending, as the text of its certificate.
@@ -35,7 +35,7 @@ impl Report {
             Report::Text(_) => 5,
             Report::Long => 6,
             Report::Limit(_) => 6,
-            Report::Unbuilt => 11,
+            Report::Leaves(_) => 7,
             Report::Memory => 10,
             Report::Certificate(_) => 0,
         }
@@ -51,7 +51,7 @@ impl Report {
             Report::Text(why) => why.as_slice(),
             Report::Long => b"limit problem\n",
             Report::Limit(why) => why.as_slice(),
-            Report::Unbuilt => b"unbuilt\n",
+            Report::Leaves(at) => at.as_slice(),
             Report::Memory => b"memory\n",
             Report::Certificate(text) => text.as_slice(),
         }

@@ -1,38 +1,29 @@
 ghost use Rattle.std.specs.Prelude.{◌≡◌, ◌≤◌, IfOk, length};
-ghost use Rattle.qm_top.specs.Built.{IsBuilt};
-ghost use Rattle.qm_top.specs.Answers.{Claims, Solves, SolvesProblem, SolvesText, reading};
+ghost use Rattle.qm_top.specs.Answers.{Solves, SolvesProblem, SolvesText, reading};
 ghost use Rattle.qm_top.specs.Report.{status_of, text_of};
 
-use crate::built::is_built;
+use crate::leave_lines::leave_text;
 use crate::report::Report;
 use crate::stated::{Stated, stated_by};
 use qm_certfile::write;
 use qm_game::Game;
 use qm_io::{List, Memory, ReadFault, Source, Whole, read_all};
+use qm_search::SearchFault;
 use std::alloc::Global;
 
 /// The most bytes that a problem has.
 const MOST: usize = 4_194_304;
 
-/// The certificate of a game's ending, as text.
-fn certificate_of(alloc: Global, game: &Game) -> Result<List<u8>, Memory>
-    requires { IsBuilt game.now }
-    ensures { IfOk result (Claims game.now) }
-{
-    // that the problem is in order
-    let _problem = game.problem();
-    let certificate = qm_search::solve(alloc, game)?;
-    write(alloc, game, &certificate)
-}
-
 /// What is answered about a game.
 fn solve_game(alloc: Global, game: &Game) -> Result<Report, Memory>
     ensures { IfOk result (λ report. SolvesProblem game.now (status_of report) (text_of report)) }
 {
-    if is_built(game) {
-        Ok(Report::Certificate(certificate_of(alloc, game)?))
-    } else {
-        Ok(Report::Unbuilt)
+    // that the problem is in order
+    let _problem = game.problem();
+    match qm_search::solve(alloc, game) {
+        Ok(certificate) => Ok(Report::Certificate(write(alloc, game, &certificate)?)),
+        Err(SearchFault::Leave(leave)) => Ok(Report::Leaves(leave_text(alloc, &leave)?)),
+        Err(SearchFault::Memory) => Err(Memory),
     }
 }
 

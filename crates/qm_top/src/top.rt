@@ -3,7 +3,7 @@ ghost use Rattle.std.specs.Io.KnownBytes.{Appends};
 ghost use Rattle.qm_io.specs.Causes.{Rose};
 ghost use Rattle.qm_top.specs.declared.command.Command.{Command};
 ghost use Rattle.qm_top.specs.Answers.{Failed, IsAnswer, Took, reading};
-ghost use Rattle.qm_top.specs.Completeness.{IsComplete};
+ghost use Rattle.qm_top.specs.Completeness.{IsDueTo};
 ghost use Rattle.qm_top.specs.Report.{status_of, text_of};
 ghost use Rattle.qm_top.specs.Words.{Asks};
 
@@ -47,7 +47,7 @@ pub fn run<P: Source, C: Source, M: Source, O: Sink>(
         (map string_bytes words.now) (reading (P.rest problem.old) (P.rest problem.new) (P.faults problem.old) (P.faults problem.new)) }
     // Which of these comes is decided by the words and the bytes, but for want of memory.
     ensures complete { ¬ Rose (O.faults out.old) (O.faults out.new) → (text : List ℕ) × Appends (O.taken out.old) (O.taken out.new) text
-        × IsComplete (map string_bytes words.now) (reading (P.rest problem.old) (P.rest problem.new) (P.faults problem.old) (P.faults problem.new)) result text }
+        × IsDueTo (map string_bytes words.now) (reading (P.rest problem.old) (P.rest problem.new) (P.faults problem.old) (P.faults problem.new)) result text }
 
     // No count of faults falls.
     ensures read_faults { P.faults problem.old ≤ P.faults problem.new }

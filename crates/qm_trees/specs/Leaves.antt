@@ -51,8 +51,17 @@ abbrev pub add_terms : (Term → Fraction) → List Term → Fraction → Checke
 add_terms value [] s = Ok s
 add_terms value (t ∷ ts) s = multiplied (whole t.coef) (value t) >>= λ p. added s p >>= λ r. add_terms value ts r
 
+-- what a row comes to, at the ends that make it greatest
+abbrev pub row_sum : Problem → List Range → List Fraction → Row → Checked Fraction
+row_sum P bx point row = add_terms (value_at greatest_end_by P bx point) row.terms zero
+
+-- what the objective comes to, at the ends that make it least
+abbrev pub leaf_objective : Problem → List Range → List Fraction → Checked Fraction
+leaf_objective P bx point =
+    add_terms (value_at least_end_by P bx point) P.terms zero >>= λ s. added s (whole P.constant) >>= λ k. divided k (whole P.scale)
+
 abbrev pub row_holds : Problem → List Range → List Fraction → Row → Checked Bool
-row_holds P bx point row = add_terms (value_at greatest_end_by P bx point) row.terms zero >>= λ s. Ok (is_at_most s (whole row.right))
+row_holds P bx point row = row_sum P bx point row >>= λ s. Ok (is_at_most s (whole row.right))
 
 -- row by row: one that fails ends it
 abbrev pub rows_hold : Problem → List Range → List Fraction → List Row → Checked Bool

@@ -6,7 +6,7 @@ if exists("b:current_syntax")
 endif
 
 syntax match certClaim "^\%(optimal\|infeasible\|empty\)\>"
-syntax match certPart "^\%(certificate\|legal\|policy\|refute\|end\)\>"
+syntax match certPart "^\%(certificate\|legal\|policy\|refute\|end\|leaves\|prefix\|pivot\|at\)\>"
 syntax match certOurs "^\%(choose\|leaf\|over\)\>"
 syntax match certTheirs "^\%(answer\|pick\|illegal\|split\)\>"
 syntax match certRange "^range\>"

@@ -15,10 +15,18 @@ use Rattle.qm_search.specs.ChoiceSteps.{AreChoices}
 use Rattle.qm_search.specs.PlaceSteps.{IsSearchPlace, next_value}
 use Rattle.qm_search.proofs.AnswerLaws.{some_answered}
 use Rattle.qm_search.proofs.Completions.{begins_here, completes_answer, completes_choice}
+use Rattle.qm_search.proofs.EndBoxes.{end_place, nothing_left}
 use Rattle.qm_search.proofs.RightPicks.{right_pick}
 use Rattle.qm_search.proofs.SearchBoxes.{next_box}
 use Rattle.qm_search.proofs.walk.+search.Goals as goal
 use Rattle.qm_search.proofs.walk.+search.Goals.{best_choice-else-loop-choice-test, best_choice-then-loop-choice-test+in_ok-next+in_ok-choices+else-choice-choice-end, worst_answer-else-loop-value-test, worst_answer-then-loop-value-test+in_ok-refute+in-Kept+in_ok-answers-in-Kept+else-value-value-end}
+
+pub best-outcome_at_end-requires : goal.best-outcome_at_end-requires
+best-outcome_at_end-requires t c =
+    end_place c.args.here.game.now c.args.here.rest.now c.args.here.depth c.args.bx.now c.args.completion.now c.args.here.from_depth c.in-None.ensures.cases c.requires
+
+pub best-returns-in-None-clause-outcome : goal.best-returns-in-None-clause-outcome
+best-returns-in-None-clause-outcome t c = rw (nothing_left c.args.here.rest.now c.in-None.ensures.cases) (c.outcome_at_end.ensures.outcome c.args.here.depth)
 
 pub visit-best-outcome-requires : goal.visit-best-outcome-requires
 visit-best-outcome-requires t c =
@@ -75,10 +83,10 @@ answer_to-returns-then-is_known-clause-answer t c =
     let right : IsRightPick P (drop 1 rest) depth bx v c.in_ok-list_of.field-0 =
     rw (c.in_ok-list_of.ensures, c.later_values-later.ensures) (right_pick c.args.here.rest.now c.args.here.from_depth c.requires.player c.requires.place.box v c.requires.within (drop 1 c.args.completion.now) completes) in
     let outcome = rw same at c.in_ok-outcome.ensures.outcome in
-    (rw same at c.legal_answer.ensures) P rest depth bx (next_value c.args.completion.now) c.requires.player right outcome
+    (rw same at c.in_ok-legal_answer.ensures) P rest depth bx (next_value c.args.completion.now) c.requires.player right outcome
 
-pub answer_to-returns-in_ok-outcome-in-Completion-clause-answer : goal.answer_to-returns-in_ok-outcome-in-Completion-clause-answer
-answer_to-returns-in_ok-outcome-in-Completion-clause-answer t c =
+pub answer_to-returns-in_ok-legal_answer-in-Completion-clause-answer : goal.answer_to-returns-in_ok-legal_answer-in-Completion-clause-answer
+answer_to-returns-in_ok-legal_answer-in-Completion-clause-answer t c =
     let P = c.args.here.game.now in
     let rest = c.args.here.rest.now in
     let depth = c.args.here.depth in
@@ -88,7 +96,7 @@ answer_to-returns-in_ok-outcome-in-Completion-clause-answer t c =
     let completes = subst (IsRightLegality P (depth + 1) (set bx depth (single v))) c.in-Completion.is (rw same at c.in_ok-tree.ensures.legality) in
     let right = right_pick c.args.here.rest.now c.args.here.from_depth c.requires.player c.requires.place.box v c.requires.within c.in-Completion.values completes in
     let outcome = rw (same, c.legality.ensures.same) at c.in_ok-outcome-in-Completion.ensures.outcome in
-    (rw same at c.legal_answer-in-Completion.ensures) P rest depth bx (next_value c.args.completion.now) c.requires.player right outcome
+    (rw same at c.in_ok-legal_answer-in-Completion.ensures) P rest depth bx (next_value c.args.completion.now) c.requires.player right outcome
 
 pub best_choice-loop-choice-init : goal.best_choice-loop-choice-init
 best_choice-loop-choice-init t c =
@@ -156,13 +164,13 @@ best_choice-returns-clause-outcome t c =
       | best_choice-else-loop-choice-test w ↦
           let above : (range_at bx depth).high <ℤ v = omega (arith, ints, high) in
           let are = subst (AreChoices P (drop 1 rest) depth bx (range_at bx depth).low v) (sym w.choices-is) before.choices in
-          c.outcome.ensures P rest depth bx v c.requires.player are (record { above = above; near = before.to })
+          c.in_ok-outcome.ensures P rest depth bx v c.requires.player are (record { above = above; near = before.to })
       | best_choice-then-loop-choice-test+in_ok-next+in_ok-choices+else-choice-choice-end w ↦
           let last : v ≡ (range_at bx depth).high = omega (arith, ints, high) in
           let outcome = rw before.same at w.in_ok-next.ensures.outcome in
           let all = w.in_ok-choices.ensures P (drop 1 rest) depth bx (range_at bx depth).low here.sound.scale_positive before.from before.choices outcome in
           let are = subst (AreChoices P (drop 1 rest) depth bx (range_at bx depth).low (v +ℤ pos 1)) (sym w.choices-is) all in
-          c.outcome.ensures P rest depth bx (v +ℤ pos 1) c.requires.player are (record { above = omega (arith, ints, last); near = λ some. omega (arith, ints, last) })
+          c.in_ok-outcome.ensures P rest depth bx (v +ℤ pos 1) c.requires.player are (record { above = omega (arith, ints, last); near = λ some. omega (arith, ints, last) })
     ]
 
 pub worst_answer-loop-value-init : goal.worst_answer-loop-value-init

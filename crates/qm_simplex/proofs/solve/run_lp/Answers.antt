@@ -1,11 +1,12 @@
 use Rattle.std.proofs.Common.{subst}
 use Rattle.qm_model.specs.Sound.{IsSound}
-use Rattle.qm_simplex.specs.Stops.{AnswersRun}
+use Rattle.qm_simplex.specs.Listed.{ListsRun}
+use Rattle.qm_simplex.proofs.NamedEntries.{named_told}
 use Rattle.qm_simplex.proofs.RightEnds.{right_told, run_told, short_told}
-use Rattle.qm_simplex.proofs.solve.solve_lp.Goals as goal
+use Rattle.qm_simplex.proofs.solve.run_lp.Goals as goal
 
 -- what is told is the run
-told : (c : goal.After-drop-tableau-inside-4) → AnswersRun c.args.game.now c.args.cuts.now c.args.bx.now c.end_of.result
+told : (c : goal.After-drop-tableau-inside-4) → ListsRun c.args.game.now c.args.cuts.now c.args.bx.now c.end_of.result
 told c =
     let leads = rw c.in_ok-tableau.ensures at c.in_ok-run.ensures.0 in
     let stops = rw (c.problem.ensures.value, c.as_slice.ensures) at c.end_of.ensures in
@@ -18,3 +19,6 @@ returns-clause-right c =
 
 pub returns-clause-pivots : goal.returns-clause-pivots
 returns-clause-pivots c = short_told c.args.game.now c.args.cuts.now c.args.bx.now c.end_of.result (told c)
+
+pub returns-clause-named : goal.returns-clause-named
+returns-clause-named c = named_told c.args.game.now c.args.cuts.now c.args.bx.now c.end_of.result (told c)

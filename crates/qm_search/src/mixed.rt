@@ -1,0 +1,109 @@
+ghost use Rattle.std.specs.Prelude.{◌≡◌, ◌<◌, ◌≤◌, ℕ, [], Any, IfErr, IfOk, None, length};
+ghost use Rattle.qm_game.specs.Dead.{IsFirstDead};
+ghost use Rattle.qm_model.specs.Boxes.{IsEmptyRange};
+ghost use Rattle.qm_simplex.specs.LeafRuns.{IsLeafRun, leaf_point};
+ghost use Rattle.qm_trees.specs.declared.policy.Policy.{Leaf};
+ghost use Rattle.qm_search.specs.Faults.{IsRightFault};
+ghost use Rattle.qm_search.specs.LeafSteps.{IsLeafEnd, IsRunFault};
+ghost use Rattle.qm_search.specs.OutcomeSteps.{IsOutcome};
+ghost use Rattle.qm_search.specs.PlaceSteps.{IsEndPlace, prefix_in};
+
+use crate::fault::{Leave, SearchFault};
+use crate::leaf_run::leaf_run;
+use crate::outcome::Outcome;
+use qm_frac::Frac;
+use qm_game::{Bx, Game};
+use qm_io::{List, Memory};
+use qm_simplex::{LpEnd, LpFault};
+use qm_trees::{Policy, Refute, values_are_fractions};
+use std::alloc::Global;
+
+/// The leaf of a point: its values of the continuous variables.
+fn leaf_of(alloc: Global, game: &Game, point: &[Frac]) -> Result<Policy, Memory>
+    requires { game.now.wholes ≤ length point.now }
+    ensures { IfOk result (λ policy. policy ≡ Leaf (leaf_point game.now point.now)) }
+{
+    let mut values = List::new(alloc);
+    values.append(&point[game.problem().wholes as usize..])?;
+    Ok(Policy::Leaf { point: values })
+}
+
+/// The values that are set, in order.
+fn prefix_of(alloc: Global, game: &Game, bx: &Bx) -> Result<List<i64>, Memory>
+    requires { game.now.wholes ≤ length bx.now }
+    ensures { IfOk result (λ prefix. prefix ≡ prefix_in game.now bx.now) }
+{
+    let set = &bx.as_slice()[..game.problem().wholes as usize];
+    let mut prefix = List::new(alloc);
+    for range in set {
+        prefix.push(range.low)?;
+    }
+    Ok(prefix)
+}
+
+/// What the end of the leaf run comes to: its point is a leaf at its value, and its combination refutes anything above;
+/// or its combination alone refutes that the rows can be met.
+fn end_outcome(alloc: Global, game: &Game, bx: &Bx, end: LpEnd) -> Result<Outcome, Memory>
+    requires place { IsEndPlace game.now bx.now }
+    requires end { IsLeafEnd game.now bx.now end }
+    ensures { (depth : ℕ) → IfOk result (IsOutcome game.now [] depth bx.now) }
+{
+    match end {
+        LpEnd::Void { combo, pivots: _ } => {
+            // that it is well formed
+            let _void_form = combo.entries();
+            Ok(Outcome::Lost(Refute::Close(combo)))
+        }
+        LpEnd::Best {
+            point,
+            value,
+            combo,
+            pivots: _,
+        } => {
+            // that it is well formed, and that the values are fractions
+            let _best_form = combo.entries();
+            let _positive = value.den();
+            let values = point.as_slice();
+            values_are_fractions(values);
+            Ok(Outcome::Reached {
+                value,
+                policy: leaf_of(alloc, game, values)?,
+                refute: Refute::Close(combo),
+            })
+        }
+    }
+}
+
+/// Why the leaf run has no end.
+fn run_fault(alloc: Global, game: &Game, bx: &Bx, fault: LpFault) -> SearchFault
+    requires place { IsEndPlace game.now bx.now }
+    requires mixed { game.now.wholes < length game.now.vars }
+    requires full { Any IsEmptyRange bx.now → ⊥ }
+    requires alive { IsFirstDead game.now bx.now None }
+    requires run { IsRunFault game.now bx.now fault }
+    ensures { IsRightFault game.now result }
+{
+    match fault {
+        LpFault::Memory => SearchFault::Memory,
+        LpFault::Leaves(run) => match prefix_of(alloc, game, bx) {
+            Ok(prefix) => SearchFault::Leave(Leave { prefix, run }),
+            Err(_) => SearchFault::Memory,
+        },
+    }
+}
+
+/// The outcome where all whole variables are set and others are not, no range is empty and no row is dead: what the leaf
+/// run of the box says.
+pub fn mixed_outcome(alloc: Global, game: &Game, bx: &Bx) -> Result<Outcome, SearchFault>
+    requires place { IsEndPlace game.now bx.now }
+    requires mixed { game.now.wholes < length game.now.vars }
+    requires full { Any IsEmptyRange bx.now → ⊥ }
+    requires alive { IsFirstDead game.now bx.now None }
+    ensures outcome { (depth : ℕ) → IfOk result (IsOutcome game.now [] depth bx.now) }
+    ensures fault { IfErr result (IsRightFault game.now) }
+{
+    match leaf_run(alloc, game, bx) {
+        Ok(end) => Ok(end_outcome(alloc, game, bx, end)?),
+        Err(fault) => Err(run_fault(alloc, game, bx, fault)),
+    }
+}
