@@ -4,7 +4,8 @@
 //! read; or `propagate` and how many times a game is to be propagated; or `legal` and how many times legality is to be
 //! asked of a game with budgets of the universal player; or `pivots`, the shape of a made tableau and how
 //! many pairs of pivots are to be done on it, the second of each taking the first back; or `runs`, the number of
-//! variables and the seed of a made problem, and how many times its relaxation is to be solved. It is timed from outside.
+//! variables and the seed of a made problem, and how many times its relaxation is to be solved; or `boxes`, and how the boxes
+//! along a random play of such a problem are gone through (`Play`). It is timed from outside.
 #![tactic(auto)]
 
 mod drawn;
@@ -12,6 +13,7 @@ mod games;
 mod legality;
 mod operands;
 mod parses;
+mod relaxations;
 mod runs;
 mod tableaus;
 mod texts;
@@ -21,6 +23,7 @@ use games::reasons_in;
 use legality::completed_in;
 use operands::Operands;
 use parses::rows_in;
+use relaxations::Play;
 use runs::Runs;
 use std::{env, io};
 use tableaus::{Shape, pivots};
@@ -31,6 +34,13 @@ fn main(rt: HostRuntime) -> io::Result<()> {
     let alloc = rt.alloc();
     let words: Vec<String> = env::args(&rt)?.skip(1).collect(alloc)?;
     match words.as_slice() {
+        [work, play @ ..] if work.as_str() == "boxes" => match Play::read(play) {
+            Some(play) => match play.walked(alloc) {
+                Ok(walked) => println!(rt; "{} {}", walked.boxes, walked.pivots),
+                Err(_) => println!(rt; "memory"),
+            },
+            None => println!(rt; "?"),
+        },
         [work, size, seed, times] if work.as_str() == "runs" => {
             match Runs::read(size.as_str(), seed.as_str(), times.as_str()) {
                 Some(runs) => match runs.last(alloc) {

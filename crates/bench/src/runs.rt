@@ -65,7 +65,7 @@ impl Runs {
 
     /// How the last run ends; `None` where there is no run, or no such problem.
     pub fn last(self, alloc: Global) -> Result<Ended, Memory> {
-        let text = text_of(alloc, self.size, self.seed).map_err(|_| Memory)?;
+        let text = text_of(alloc, self.size, self.size, self.seed).map_err(|_| Memory)?;
         match game_of(alloc, &text) {
             Some(game) => last_on(alloc, &game, self.times),
             None => Ok(Ended::new(Ending::None, 0)),
@@ -73,8 +73,8 @@ impl Runs {
     }
 }
 
-// The game that the text states; none where it states none, or memory runs out.
-fn game_of(alloc: Global, text: &[u8]) -> Option<Game> {
+/// The game that the text states; none where it states none, or memory runs out.
+pub fn game_of(alloc: Global, text: &[u8]) -> Option<Game> {
     if text.len() > MOST {
         return None;
     }

@@ -45,15 +45,16 @@ fn end_line(alloc: Global, end: &Result<LpEnd, LpFault>) -> Result<String, Alloc
     }
 }
 
-fn leaves_line(alloc: Global, run: &RunLeaves) -> Result<String, AllocError> {
+/// The operation that leaves, where, and the pivots until then.
+pub fn leaves_line(alloc: Global, run: &RunLeaves) -> Result<String, AllocError> {
     let pivots = pivot_words(alloc, run.pivots.as_slice())?;
     let at = place_words(alloc, run.at)?;
     let operation = leaves_text(alloc, run.leaves)?;
     format!(in alloc; "leaves pivots{pivots} at {at} {operation}")
 }
 
-// As certificates spell it.
-fn combo_words(alloc: Global, combo: &Combo) -> Result<String, AllocError> {
+/// As certificates spell it.
+pub fn combo_words(alloc: Global, combo: &Combo) -> Result<String, AllocError> {
     let mut out = String::from_str(alloc, if combo.objective() { " o" } else { "" })?;
     for entry in combo.entries() {
         let row = row_word(alloc, entry.row)?;
