@@ -8,7 +8,7 @@ use Rattle.qm_model.specs.Plays.{is_universal}
 use Rattle.qm_model.specs.Ranges.{single}
 use Rattle.qm_trees.specs.Picks.{fixed}
 
-fixed_none : (xs : List Var) (bx : List Range) → fixed xs bx [] ≡ bx
+pub fixed_none : (xs : List Var) (bx : List Range) → fixed xs bx [] ≡ bx
 fixed_none [] bx = refl
 fixed_none (x ∷ xs) [] = refl
 fixed_none (x ∷ xs) (r ∷ bx) = refl

@@ -5,3 +5,4 @@ pub mod Told
 pub mod FixedRanges
 pub mod FixedBoxes
 pub mod LastPlaces
+pub mod ScenarioDepths
