@@ -1,22 +1,19 @@
 -- What the combination of an end closes, where it has a value.
-use Rattle.std.proofs.Common.{◌≡◌, refl, sym, subst, ◌<◌, Bool, true, false, List, All, Ok, Err, pos, ◌≤ℤ◌, inr}
+use Rattle.std.proofs.Common.{◌≡◌, refl, subst, List, All, Ok, pos, ◌≤ℤ◌, inr}
 use Rattle.std.specs.Prelude.{Any as Some, IsOk}
-use Rattle.qm_math.specs.Fraction.{Fraction, HasPositiveDen, IsAtMost, IsBelow, IsSame}
+use Rattle.qm_math.specs.Fraction.{Fraction, HasPositiveDen, IsAtMost, IsSame}
 use Rattle.qm_math.proofs.Compare.{at_most_trans}
 use Rattle.qm_math.proofs.FractionOrder.{at_most-same}
-use Rattle.qm_math.proofs.FractionLaws.{same_sym}
-use Rattle.qm_frac.specs.declared.leaves.Leaves.{Leaves}
 use Rattle.qm_model.specs.declared.range.Range.{Range}
 use Rattle.qm_model.specs.declared.row.Row.{Row}
 use Rattle.qm_model.specs.declared.game.Problem.{Problem}
 use Rattle.qm_model.specs.Boxes.{IsEmptyRange}
-use Rattle.qm_model.specs.Goals.{Goal, Above, IsProper}
-use Rattle.qm_model.specs.Sound.{IsSound}
+use Rattle.qm_model.specs.Goals.{Goal, IsProper}
 use Rattle.qm_trees.specs.declared.combination.ComboValue.{ComboValue}
 use Rattle.qm_trees.specs.BoxPoints.{HoldsAt, objective_of}
-use Rattle.qm_trees.specs.Closing.{Excludes, closing}
+use Rattle.qm_trees.specs.Closing.{Excludes}
 use Rattle.qm_trees.specs.Entries.{AreEntries, Combination, Weighted, weighted_rows}
-use Rattle.qm_trees.specs.Evaluation.{bound_of, least_combined, right_side, value_of}
+use Rattle.qm_trees.specs.Evaluation.{bound_of, value_of}
 use Rattle.qm_trees.specs.RefuteRight.{AreNamed}
 use Rattle.qm_trees.proofs.ClosedGoals.{weighted_hold}
 use Rattle.qm_trees.proofs.CombinationCloses.{closing_exact}

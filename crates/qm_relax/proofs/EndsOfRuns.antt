@@ -1,6 +1,6 @@
 -- How a run ends: by the closing combination of a good tableau, whose rows are there, and with numbers of the program.
-use Rattle.std.proofs.Common.{◌≡◌, refl, sym, ap, subst, ℕ, suc, ◌+◌, ◌*◌, ◌<◌, Bool, true, false, List, [], ◌∷◌, length, arith, All, Ok, Err, ℤ, pos, ◌≤ℤ◌}
-use Rattle.std.specs.Prelude.{Option, Some, Result}
+use Rattle.std.proofs.Common.{◌≡◌, subst, ℕ, suc, ◌+◌, ◌*◌, ◌<◌, true, List, [], ◌∷◌, length, All, Ok, Err, pos, ◌≤ℤ◌}
+use Rattle.std.specs.Prelude.{Some}
 use Rattle.std.proofs.lemmas.List.Elements.{All-cons, All-nil}
 use Rattle.qm_math.specs.Fraction.{Fraction, HasPositiveDen, whole}
 use Rattle.qm_math.proofs.FractionLaws.{whole_den}
@@ -21,14 +21,13 @@ use Rattle.qm_tableau.specs.Rule.{chosen}
 use Rattle.qm_tableau.specs.Tables.{Table, entry_at, row_at}
 use Rattle.qm_tableau.proofs.Exactness.{entry_den}
 use Rattle.qm_tableau.proofs.FirstGood.{first_good}
-use Rattle.qm_trees.specs.Entries.{Combination}
 use Rattle.qm_trees.specs.RefuteRight.{AreNamed}
 use Rattle.qm_simplex.specs.declared.answers.LpEnd.{LpEnd}
 use Rattle.qm_simplex.specs.declared.answers.LpEnd.TheVariants.{Best, Void}
 use Rattle.qm_simplex.specs.declared.answers.LeavePlace.TheVariants as place
 use Rattle.qm_simplex.specs.Multipliers.{closing_combination}
 use Rattle.qm_simplex.specs.Runs.{Pivot}
-use Rattle.qm_simplex.specs.Stops.{Answer, IsRun, IsRunFrom, Located, after_choice, after_pivot, after_pivots, best_at, located, point_at, then_at, value_at, void_at}
+use Rattle.qm_simplex.specs.Stops.{Answer, IsRun, Located, after_choice, after_pivot, after_pivots, best_at, located, point_at, then_at, value_at, void_at}
 use Rattle.qm_simplex.proofs.BestPoint.{located-ok, located_value, then_at-ok}
 use Rattle.qm_simplex.proofs.GoodRuns.{run_good}
 use Rattle.qm_simplex.proofs.SameTables.{row_at_den}

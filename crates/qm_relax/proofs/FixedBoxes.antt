@@ -1,9 +1,9 @@
 -- A box whose last universal ranges are fixed at values in them lies inside the box, and so do its points.
-use Rattle.std.proofs.Common.{◌≡◌, ℕ, zero, suc, List, [], ◌∷◌, ◌++◌, take, drop, arith, ℤ, ◌≤ℤ◌, unsigned_abs}
+use Rattle.std.proofs.Common.{ℕ, zero, suc, List, [], ◌∷◌, ◌++◌, take, drop, arith, ℤ, ◌≤ℤ◌, unsigned_abs}
 use Rattle.std.specs.Prelude.{◌≤◌, IfOk, Result, Ok, Err, max}
 use Rattle.std.specs.List.{AllZip}
 use Rattle.std.proofs.lemmas.Int.{ints}
-use Rattle.qm_math.specs.Fraction.{Fraction, HasPositiveDen, IsAtMost, whole}
+use Rattle.qm_math.specs.Fraction.{Fraction, IsAtMost, whole}
 use Rattle.qm_math.specs.Ranges.{IsBetween}
 use Rattle.qm_math.proofs.Compare.{at_most_trans}
 use Rattle.qm_math.proofs.FractionLaws.{whole_den}
@@ -12,7 +12,7 @@ use Rattle.qm_model.specs.declared.row.Row.{Row}
 use Rattle.qm_model.specs.declared.variable.Var.{Var}
 use Rattle.qm_model.specs.declared.game.Problem.{Problem}
 use Rattle.qm_model.specs.Boxes.{IsBox, IsInside, bounds_of}
-use Rattle.qm_model.specs.Plays.{is_universal, whole_vars}
+use Rattle.qm_model.specs.Plays.{whole_vars}
 use Rattle.qm_model.specs.Ranges.{single}
 use Rattle.qm_model.proofs.BoxLaws.{inside_itself, inside_trans}
 use Rattle.qm_model.proofs.Players.{by_player, is_for_all, not_universal}

@@ -25,14 +25,11 @@ use Rattle.qm_trees.proofs.Multipliers.{entries_positive, weighted_dens}
 use Rattle.qm_combo.proofs.EmptyRanges.{closing_empty}
 use Rattle.qm_simplex.specs.declared.answers.LpEnd.{LpEnd}
 use Rattle.qm_simplex.specs.declared.answers.LpEnd.TheVariants.{Best, Void}
-use Rattle.qm_simplex.specs.declared.answers.RunLeaves.{RunLeaves}
 use Rattle.qm_simplex.specs.Stops.{Answer, IsRun}
 use Rattle.qm_simplex.proofs.OneAnswer.{one_answer}
-use Rattle.qm_relax.specs.declared.answers.RelaxedPoint.{RelaxedPoint}
 use Rattle.qm_relax.specs.declared.answers.RelaxedPoint.TheVariants as pointed
 use Rattle.qm_relax.specs.declared.answers.WhyNot.{WhyNot}
 use Rattle.qm_relax.specs.declared.answers.WhyNot.TheVariants as why
-use Rattle.qm_relax.specs.Answers.{ClosesInRange, IsBestPoint, IsGreatest}
 use Rattle.qm_relax.specs.AnswerSteps.{EndsWith, IsOwed, told}
 use Rattle.qm_relax.specs.Failing.{Fails, FailsBy, LeavesBy, combination_at, value_at_end}
 use Rattle.qm_relax.proofs.ClosingEnds.{closes_in_range, none_above}

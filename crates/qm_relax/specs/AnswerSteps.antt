@@ -1,5 +1,5 @@
 -- What is told where a run ends, and what is owed of an answer with its point.
-use Rattle.std.specs.Prelude.{◌≡◌, ◌↔◌, List, Any, Ok, if◌then◌else◌}
+use Rattle.std.specs.Prelude.{◌↔◌, List, Any, Ok, if◌then◌else◌}
 use Rattle.qm_model.specs.declared.range.Range.{Range}
 use Rattle.qm_model.specs.declared.row.Row.{Row}
 use Rattle.qm_model.specs.declared.game.Problem.{Problem}

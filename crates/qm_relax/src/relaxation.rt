@@ -41,12 +41,7 @@ pub(crate) fn relax_with(
 /// greatest objective, where that doesn't close the goal; or exactly where the run over the box fails, which operation
 /// leaves. A box with an empty range is closed. With a bound comes a point that has it, and a combination that closes
 /// each goal above it. `Memory`, where there is none for the run or the answer.
-pub fn relax_point(
-    alloc: Global,
-    game: &Game,
-    bx: &Bx,
-    goal: &Goal,
-) -> Result<RelaxedPoint, Memory>
+pub fn relax_point(alloc: Global, game: &Game, bx: &Bx, goal: &Goal) -> Result<RelaxedPoint, Memory>
     requires { IsBox game.now.vars bx.now }
     ensures right { IfOk result (λ answer. IsRight game.now [] bx.now (goal_of goal.now) (without_point answer)) }
     ensures exact { IfOk result (λ answer. HasNoBound (without_point answer) ↔ Fails game.now [] bx.now) }

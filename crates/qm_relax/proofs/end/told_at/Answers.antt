@@ -4,7 +4,7 @@ use Rattle.qm_trees.specs.Entries.{AreEntries, Combination}
 use Rattle.qm_trees.specs.RefuteRight.{AreNamed}
 use Rattle.qm_relax.specs.declared.answers.WhyNot.TheVariants as why
 use Rattle.qm_relax.specs.AnswerSteps.{IsOwed}
-use Rattle.qm_relax.specs.Failing.{combination_at, value_at_end}
+use Rattle.qm_relax.specs.Failing.{value_at_end}
 use Rattle.qm_relax.proofs.EndsOfRuns.{end_of_run}
 use Rattle.qm_relax.proofs.Told.{failed_owed, told_owed}
 use Rattle.qm_relax.proofs.end.told_at.Goals as goal

@@ -1,8 +1,5 @@
-use Rattle.std.proofs.Common.{List, [], sym, subst}
-use Rattle.qm_model.specs.declared.range.Range.{Range}
+use Rattle.std.proofs.Common.{[], sym, subst}
 use Rattle.qm_model.specs.Boxes.{IsBox}
-use Rattle.qm_relax.specs.Answers.{IfBound, IsBestPoint}
-use Rattle.qm_relax.specs.Scenarios.{fixed_last}
 use Rattle.qm_relax.proofs.FixedBoxes.{fixed_is_box, lent_point}
 use Rattle.qm_relax.proofs.scenarios.scenario_point.Goals as goal
 
