@@ -62,10 +62,7 @@ impl Question {
     fn begins_with_goal(self) -> bool {
         matches!(
             self,
-            Question::Relax
-                | Question::RelaxPoint
-                | Question::Scenario
-                | Question::ScenarioPoint
+            Question::Relax | Question::RelaxPoint | Question::Scenario | Question::ScenarioPoint
         )
     }
 
