@@ -19,9 +19,10 @@ impl Draws {
     }
 }
 
-/// The text of a problem that the seed decides, of three binaries at least: every third is universal, and at most half of
-/// these are 1. There are as many rows as binaries, each over about half of these.
-pub fn text_of(alloc: Global, size: u32, seed: u32) -> Result<Vec<u8>, AllocError> {
+/// The text of a problem of so many variables that the seed decides. The first so many, three at least, are binaries, of
+/// which every third is universal, and at most half of these are 1; the others are continuous, from 0 to 1. There are as many
+/// rows as variables, each over about half of these.
+pub fn text_of(alloc: Global, size: u32, wholes: u32, seed: u32) -> Result<Vec<u8>, AllocError> {
     let mut draws = Draws {
         state: u64::from(seed),
     };
@@ -33,11 +34,12 @@ pub fn text_of(alloc: Global, size: u32, seed: u32) -> Result<Vec<u8>, AllocErro
         push_row(&mut text, &mut draws, size)?;
     }
     text.extend_from_slice(b"UNCERTAINTY SUBJECT TO\n")?;
-    push_budget(&mut text, size / 3)?;
+    push_budget(&mut text, wholes / 3)?;
+    push_continuous(&mut text, wholes, size)?;
     text.extend_from_slice(b"BINARIES")?;
-    push_names(&mut text, size, 1)?;
+    push_names(&mut text, wholes, 1)?;
     text.extend_from_slice(b"\nALL")?;
-    push_names(&mut text, size / 3, 3)?;
+    push_names(&mut text, wholes / 3, 3)?;
     text.extend_from_slice(b"\nORDER")?;
     push_names(&mut text, size, 1)?;
     text.extend_from_slice(b"\nEND\n")?;
@@ -116,6 +118,18 @@ fn push_budget(text: &mut Vec<u8>, universals: u32) -> Result<(), AllocError> {
         push_term(text, 1, number.wrapping_mul(3))?;
     }
     push_right(text, universals.wrapping_add(1) / 2)
+}
+
+// The bounds of the variables behind so many, none where there are no more.
+fn push_continuous(text: &mut Vec<u8>, wholes: u32, size: u32) -> Result<(), AllocError> {
+    if wholes < size {
+        text.extend_from_slice(b"BOUNDS\n")?;
+    }
+    for variable in wholes..size {
+        push_name(text, variable.wrapping_add(1))?;
+        text.extend_from_slice(b" <= 1\n")?;
+    }
+    Ok(())
 }
 
 fn push_right(text: &mut Vec<u8>, right: u32) -> Result<(), AllocError> {

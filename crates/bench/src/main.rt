@@ -7,7 +7,8 @@
 //! many pairs of pivots are to be done on it, the second of each taking the first back; or `runs`, the number of
 //! variables and the seed of a made problem, and how many times its relaxation is to be solved; or `leaves`, the number of
 //! continuous variables and the seed of a made problem with one leaf, and how many times it is to be solved, or
-//! `leaf-runs` for the run of this leaf's relaxation alone. It is timed from outside.
+//! `leaf-runs` for the run of this leaf's relaxation alone; or `boxes`, and how the boxes along a random play of such a
+//! problem are gone through (`Play`). It is timed from outside.
 #![tactic(auto)]
 
 mod drawn;
@@ -17,6 +18,7 @@ mod legality;
 mod mixed;
 mod operands;
 mod parses;
+mod relaxations;
 mod runs;
 mod tableaus;
 mod texts;
@@ -29,6 +31,7 @@ use mixed::Mixed;
 use operands::Operands;
 use parses::rows_in;
 use qm_journal::JournalFault;
+use relaxations::Play;
 use runs::Runs;
 use std::{env, io};
 use tableaus::{Shape, pivots};
@@ -39,6 +42,13 @@ fn main(rt: HostRuntime) -> io::Result<()> {
     let alloc = rt.alloc();
     let words: Vec<String> = env::args(&rt)?.skip(1).collect(alloc)?;
     match words.as_slice() {
+        [work, play @ ..] if work.as_str() == "boxes" => match Play::read(play) {
+            Some(play) => match play.walked(alloc) {
+                Ok(walked) => println!(rt; "{} {}", walked.boxes, walked.pivots),
+                Err(_) => println!(rt; "memory"),
+            },
+            None => println!(rt; "?"),
+        },
         [work, size, seed, times] if work.as_str() == "runs" => {
             match Runs::read(size.as_str(), seed.as_str(), times.as_str()) {
                 Some(runs) => match runs.last(alloc) {

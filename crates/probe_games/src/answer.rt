@@ -13,6 +13,7 @@ use crate::policies::policy_line;
 use crate::propagations::propagation_line;
 use crate::question::Question;
 use crate::refutations::refutation_line;
+use crate::relaxations::{relax_line, scenario_line};
 use crate::rows::{point_line, rows_line};
 use crate::solved::solve_line;
 use crate::tableaus::tableau_line;
@@ -89,6 +90,10 @@ fn answer_over(
 {
     match question {
         Question::Run => run_line(alloc, game, cuts, &bx),
+        Question::Relax => relax_line(alloc, game, &bx, rest, false),
+        Question::RelaxPoint => relax_line(alloc, game, &bx, rest, true),
+        Question::Scenario => scenario_line(alloc, game, &bx, rest, false),
+        Question::ScenarioPoint => scenario_line(alloc, game, &bx, rest, true),
         Question::Tableau => tableau_line(alloc, game, cuts, &bx, rest),
         Question::Rows => rows_line(alloc, game, &bx),
         Question::Point => point_line(alloc, game, rest),

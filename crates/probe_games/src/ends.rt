@@ -53,8 +53,8 @@ pub fn leaves_line(alloc: Global, run: &RunLeaves) -> Result<String, AllocError>
     format!(in alloc; "leaves pivots{pivots} at {at} {operation}")
 }
 
-// As certificates spell it.
-fn combo_words(alloc: Global, combo: &Combo) -> Result<String, AllocError> {
+/// As certificates spell it.
+pub fn combo_words(alloc: Global, combo: &Combo) -> Result<String, AllocError> {
     let mut out = String::from_str(alloc, if combo.objective() { " o" } else { "" })?;
     for entry in combo.entries() {
         let row = row_word(alloc, entry.row)?;

@@ -3,6 +3,9 @@
 //! variable, as `run "MAX x ST ORDER x END" 0..1`.
 //! `run` tells how its relaxation ends; `tableau` the tableau that a run begins with, or that pivots lead to, as
 //! `after 5/2`; with the cuts that stand behind `with`, as `1x1+1x3<=1`.
+//! `relax` tells what the relaxation of a box tells for a goal, which stands before the ranges: `any`, or a value that is to
+//! be exceeded; `scenario` the same where the values behind `| scenario` are fixed; `relax_point` and `scenario_point` with a
+//! point.
 //! `rows` tells what each row comes to and which is dead; `point` whether each holds `at` values; `propagate` the box that
 //! the rows narrow it to, and the reasons.
 //! `combination` tells what a combination comes to that is written as in certificates, as `close o r1=1/2`, or whether it
@@ -27,6 +30,7 @@ mod policies;
 mod propagations;
 mod question;
 mod refutations;
+mod relaxations;
 mod rows;
 mod solved;
 mod tableaus;

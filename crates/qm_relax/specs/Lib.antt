@@ -1,0 +1,4 @@
+pub mod Failing
+pub mod Answers
+pub mod Scenarios
+pub mod AnswerSteps
