@@ -1,5 +1,5 @@
 -- Ranges whose ends are near 0: their values, and the ranges that cover them.
-use Rattle.std.proofs.Common.{◌≡◌, ℕ, zero, suc, ◌+◌, ◌<◌, ◌≤◌, ℤ, pos, negsuc, ◌+ℤ◌, ◌≤ℤ◌, List, [], ◌∷◌, drop, get_or, length, map, arith, set, unsigned_abs}
+use Rattle.std.proofs.Common.{ℕ, zero, suc, ◌+◌, ◌<◌, ◌≤◌, ℤ, pos, negsuc, ◌+ℤ◌, ◌≤ℤ◌, List, [], ◌∷◌, drop, length, map, arith, unsigned_abs}
 use Rattle.std.specs.Prelude.{All, ◌^◌, slice_set}
 use Rattle.std.proofs.lemmas.Int.{ints}
 use Rattle.std.proofs.lemmas.List.Elements.{All-cons, All-nil, All-head, All-tail}
@@ -10,7 +10,7 @@ use Rattle.qm_model.specs.declared.variable.Player.TheVariants.{Exists, All as U
 use Rattle.qm_model.specs.declared.variable.Var.{Var}
 use Rattle.qm_model.specs.Boxes.{Cover, FollowOn, bounds_of, whole_box_of}
 use Rattle.qm_model.specs.Plays.{AreWithin}
-use Rattle.qm_model.specs.Ranges.{range_at, single}
+use Rattle.qm_model.specs.Ranges.{range_at}
 use Rattle.qm_model.specs.Wins.{MatchPlayer}
 use Rattle.qm_trees.specs.Picks.{Fit, FitNext}
 use Rattle.qm_certfile.specs.WellFormed.{IsNear, IsWhole}

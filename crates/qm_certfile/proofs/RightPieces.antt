@@ -1,5 +1,5 @@
 -- What trees are made of that are right over a box whose ends are near 0: all of its type.
-use Rattle.std.proofs.Common.{◌≡◌, ℕ, ◌+◌, ◌<◌, true, true≢false, ℤ, List, [], ◌∷◌, ◌++◌, get_or, length, map, refl, sym, subst, arith, drop, inl, inr, Option, Some, None}
+use Rattle.std.proofs.Common.{◌≡◌, ℕ, ◌+◌, ◌<◌, true, true≢false, List, [], ◌∷◌, get_or, length, map, refl, sym, subst, arith, drop, inl, inr, Option, Some, None}
 use Rattle.std.specs.Prelude.{All, ◌&&◌, ◌^◌, IsSome, is_some, slice_get, slice_set}
 use Rattle.std.specs.List.{list_all}
 use Rattle.std.proofs.lemmas.Bool.{and_parts}
@@ -7,8 +7,6 @@ use Rattle.std.proofs.lemmas.Bool.Decides.{Decides-by_and}
 use Rattle.std.proofs.lemmas.List.{length-map, length-take}
 use Rattle.std.proofs.lemmas.Option.{slice_get_within}
 use Rattle.qm_math.specs.Fraction.{Fraction}
-use Rattle.qm_math.specs.Ranges.{IsBetween}
-use Rattle.qm_frac.specs.Lowest.{IsFrac}
 use Rattle.qm_model.specs.declared.range.Range.{Range}
 use Rattle.qm_model.specs.declared.row.Row.{Row}
 use Rattle.qm_model.specs.declared.row_id.RowId.{RowId}
@@ -25,7 +23,7 @@ use Rattle.qm_trees.specs.declared.empty.Empty.TheOpen as none
 use Rattle.qm_trees.specs.declared.empty.Empty.TheFolds.{fold_out-Empty, fold_out-EmptyPart, map-Empty}
 use Rattle.qm_trees.specs.declared.empty.EmptyPart.{EmptyPart}
 use Rattle.qm_trees.specs.declared.policy.Policy.{Policy, out-Policy}
-use Rattle.qm_trees.specs.declared.policy.Below.{Below, out-Below}
+use Rattle.qm_trees.specs.declared.policy.Below.{Below}
 use Rattle.qm_trees.specs.declared.policy.Below.TheOpen as answer
 use Rattle.qm_trees.specs.declared.policy.Below.TheFolds.{fold_out-Below, fold_out-Policy, fold_out-PolicyPart, map-Below, map-Policy}
 use Rattle.qm_trees.specs.declared.policy.PolicyPart.{PolicyPart, out-PolicyPart}
@@ -44,7 +42,7 @@ use Rattle.qm_trees.specs.PolicyRight.{IsRightBelow, IsRightPolicy}
 use Rattle.qm_trees.specs.RefuteJudgement as refutations
 use Rattle.qm_trees.specs.RefuteRight as refute_right
 use Rattle.qm_trees.specs.RefuteRight.{AreNamed, IsRightRefutation}
-use Rattle.qm_certfile.specs.WellFormed.{AreOfType, Count, Entries, IsEntry, IsNear, Piece, Whole, below_pieces, below_step, empty_part_pieces, empty_part_step, empty_pieces, empty_step, policy_part_pieces, policy_part_step, policy_pieces, policy_step, position_of, refute_part_pieces, refute_part_step, refute_pieces, refute_step, together}
+use Rattle.qm_certfile.specs.WellFormed.{AreOfType, Count, Entries, IsNear, Piece, Whole, below_pieces, below_step, empty_part_pieces, empty_part_step, empty_pieces, empty_step, policy_part_pieces, policy_part_step, policy_pieces, policy_step, position_of, refute_part_pieces, refute_part_step, refute_pieces, refute_step, together}
 use Rattle.qm_certfile.proofs.NearRanges.{AreNear, between_near, cover_near, fit_whole, near_at, near_drop, near_set, whole_of}
 use Rattle.qm_certfile.proofs.Pieces.{joined_of_type, numbers_of_type, together_of_type, wholes_of_type}
 

@@ -1,6 +1,6 @@
 -- The problem that a text states is in order, and the bounds of its variables are near 0.
-use Rattle.std.proofs.Common.{◌≡◌, cond, ◌≤◌, ◌^◌, Bool, true, false, not, List, get_or, refl, subst, unsigned_abs, ℕ, Ok, Option, Some, None}
-use Rattle.std.specs.Prelude.{All, nat_le}
+use Rattle.std.proofs.Common.{◌≡◌, cond, ◌≤◌, ◌^◌, Bool, true, false, not, List, get_or, refl, subst, unsigned_abs, ℕ, Option, Some, None}
+use Rattle.std.specs.Prelude.{All}
 use Rattle.std.proofs.lemmas.List.Elements.{All-append, All-filter, All-map}
 use Rattle.qm_model.specs.declared.game.Problem.{Problem}
 use Rattle.qm_model.specs.declared.variable.Var.{Var}
@@ -9,7 +9,6 @@ use Rattle.qm_parse.specs.declared.ast.Ast.{Ast}
 use Rattle.qm_parse.specs.declared.ast.Named.{Named}
 use Rattle.qm_normal.specs.declared.fault.NormalFault.{NormalFault}
 use Rattle.qm_normal.specs.Limits.{domain_fault, fits_domain, large_domain, variables_fault}
-use Rattle.qm_normal.specs.Normal.{normal_form}
 use Rattle.qm_normal.specs.Stated.{States}
 use Rattle.qm_normal.specs.Variables.{continuous_names, game_order, is_whole, var_of, vars_of, whole_names}
 use Rattle.qm_normal.proofs.NearEnds.{near_high, near_low}

@@ -35,6 +35,5 @@ pub use laws::{
     each_list_of_values_is_of_names, no_fault_is_want_of_memory, normal_forms_are_sound,
     normal_forms_are_what_is_parsed, numbers_of_a_text_are_proper, one_problem_a_text,
     rows_are_what_is_written, rows_of_a_text_have_no_constants, stated_problems_are_in_order,
-    the_objective_is_what_is_written,
-    the_problem_is_what_is_written, trees_of_texts_are_in_order,
+    the_objective_is_what_is_written, the_problem_is_what_is_written, trees_of_texts_are_in_order,
 };
