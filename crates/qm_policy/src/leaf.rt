@@ -74,12 +74,7 @@ fn sum_at(
 }
 
 /// What the row comes to at a leaf, at the ends that make it greatest. Leaves where the first operation leaves.
-pub fn row_sum(
-    problem: &Problem,
-    bx: &[Range],
-    point: &[Frac],
-    row: &Row,
-) -> Result<Frac, Leaves>
+pub fn row_sum(problem: &Problem, bx: &[Range], point: &[Frac], row: &Row) -> Result<Frac, Leaves>
     requires vars { HasVarsBelow (length bx.now) row.now.terms }
     requires size { All (λ term. unsigned_abs term.coef < 2 ^ 127) row.now.terms }
     requires point { length bx.now ≡ problem.now.wholes + length point.now }

@@ -48,12 +48,7 @@ fn row_in_range(
 }
 
 /// What each row comes to, in the order of the rows.
-fn rows_in_range(
-    problem: &Problem,
-    bx: &[Range],
-    point: &[Frac],
-    rows: &[Row],
-) -> Result<(), Left>
+fn rows_in_range(problem: &Problem, bx: &[Range], point: &[Frac], rows: &[Row]) -> Result<(), Left>
     requires rows { All (IsRowOver problem.now.vars) rows.now }
     requires few { length rows.now < 2 ^ 29 }
     requires ranges { length bx.now ≡ length problem.now.vars }
