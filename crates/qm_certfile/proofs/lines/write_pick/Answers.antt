@@ -13,5 +13,5 @@ returns c =
     let values = map signed_decimal c.args.completion.now in
     on_ok c.push.result
     (λ last. wrote c.args.out.now c.append.new.self c.push.new.self (codes "pick ") (line_text (value ∷ values)) (line_text (codes "pick" ∷ value ∷ values)) c.in_ok-append.ensures.ok
-    (line_wrote c.append.new.self c.write_whole.new.out c.write_wholes.new.out c.push.new.self value values (rw (to_z-of_z w64 c.args.value c.ranges.value) at c.in_ok-write_whole.ensures) c.in_ok-write_wholes.ensures last) refl)
+    (line_wrote c.append.new.self c.write_whole.new.out c.write_wholes.new.out c.push.new.self value values (rw (to_z-of_z w64 c.args.value c.ranges.value) at c.in_ok-write_whole.ensures.ok) c.in_ok-write_wholes.ensures last) refl)
     c.push.ensures.ok
