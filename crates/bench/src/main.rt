@@ -2,9 +2,11 @@
 //! Its words are the operation, the kind of the operands and how many thousand times; or `tokens` and how many
 //! thousand bytes of text are to be cut into tokens; or `parse` and how many thousand terms a text has that is to be
 //! read; or `propagate` and how many times a game is to be propagated; or `legal` and how many times legality is to be
-//! asked of a game with budgets of the universal player; or `pivots`, the shape of a made tableau and how
-//! many pairs of pivots are to be done on it, the second of each taking the first back; or `runs`, the number of
-//! variables and the seed of a made problem, and how many times its relaxation is to be solved. It is timed from outside.
+//! asked of a game with budgets of the universal player; or `pivots`, the shape of a made problem, as `12-dense` or
+//! `30-sparse`, and how many pairs of pivots are to be tried on its first tableau, the second of each taking the first
+//! back; or `runs` or `sparse-runs`, the number of variables and the seed of a made problem, and how many times its
+//! relaxation is to be solved. The last number that these print is how many pivots left whole numbers over one denominator
+//! a row. It is timed from outside.
 #![tactic(auto)]
 
 mod drawn;
@@ -31,10 +33,16 @@ fn main(rt: HostRuntime) -> io::Result<()> {
     let alloc = rt.alloc();
     let words: Vec<String> = env::args(&rt)?.skip(1).collect(alloc)?;
     match words.as_slice() {
-        [work, size, seed, times] if work.as_str() == "runs" => {
-            match Runs::read(size.as_str(), seed.as_str(), times.as_str()) {
+        [work, size, seed, times] => {
+            match Runs::read(work.as_str(), size.as_str(), seed.as_str(), times.as_str()) {
                 Some(runs) => match runs.last(alloc) {
-                    Ok(ended) => println!(rt; "{} {}", ended.ending.word(), ended.pivots),
+                    Ok(ended) => println!(
+                        rt;
+                        "{} {} {}",
+                        ended.ending.word(),
+                        ended.pivots,
+                        ended.whole
+                    ),
                     Err(_) => println!(rt; "memory"),
                 },
                 None => println!(rt; "?"),
@@ -46,7 +54,7 @@ fn main(rt: HostRuntime) -> io::Result<()> {
                 pairs.as_str().parse::<u32>().ok(),
             ) {
                 (Some(shape), Some(pairs)) => match pivots(alloc, shape, pairs) {
-                    Ok(done) => println!(rt; "{done}"),
+                    Ok(done) => println!(rt; "{} {}", done.pivots, done.whole),
                     Err(_) => println!(rt; "memory"),
                 },
                 _ => println!(rt; "?"),

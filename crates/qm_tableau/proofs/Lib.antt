@@ -1,4 +1,12 @@
+pub mod SmallNumbers
+pub mod Parts
 pub mod Cuts
+pub mod RowLists
+pub mod NoLeaving
+pub mod WholeEntries
+pub mod QuotientOrder
+pub mod UpdatedRows
+pub mod KeptRows
 pub mod Zeros
 pub mod Steps
 pub mod Candidates

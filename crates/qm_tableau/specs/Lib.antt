@@ -9,3 +9,4 @@ pub mod Columns
 pub mod Good
 pub mod Wholes
 pub mod StoredSteps
+pub mod UpdateSteps

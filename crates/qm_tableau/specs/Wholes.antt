@@ -5,8 +5,8 @@ use Rattle.qm_frac.specs.Lowest.{lowest}
 use Rattle.qm_tableau.specs.Tables.{Table}
 
 -- the number in a place
-abbrev pub place : List ℤ → ℕ → ℤ
-place row k = slice_index_or row k (pos 0)
+abbrev pub at_place : List ℤ → ℕ → ℤ
+at_place row k = slice_index_or row k (pos 0)
 
 -- the fractions of numbers over one denominator
 abbrev pub over : ℕ → List ℤ → List Fraction
@@ -22,7 +22,7 @@ IsSmall n = unsigned_abs n ≤ 2 ^ 62
 
 -- the denominator is above 0, and no number is larger than 2 ^ 62
 pub record IsSmallRow (row : List ℤ) : Type 0 where
-  pub positive : pos 0 <ℤ place row 0
+  pub positive : pos 0 <ℤ at_place row 0
   pub small : All IsSmall row
 
 -- the numbers from column k on, times p, less f times the leaving row's beside them; column c gets f times e
@@ -36,7 +36,7 @@ updated_numbers c p f e k (a ∷ numbers) (b ∷ others) =
 -- leaving row times the row's own number in the column, which becomes that number times the leaving row's denominator.
 abbrev pub updated_row : ℕ → List ℤ → List ℤ → List ℤ
 updated_row c leaving row =
-    (place row 0 *ℤ place leaving (suc c)) ∷ updated_numbers c (place leaving (suc c)) (place row (suc c)) (place leaving 0) 0 (drop 1 row) (drop 1 leaving)
+    (at_place row 0 *ℤ at_place leaving (suc c)) ∷ updated_numbers c (at_place leaving (suc c)) (at_place row (suc c)) (at_place leaving 0) 0 (drop 1 row) (drop 1 leaving)
 
 -- the table's rows are the fractions of these small rows
 pub record AreSmallRows (t : Table) (rows : List (List ℤ)) : Type 0 where

@@ -104,10 +104,11 @@ fn table_at(
 {
     let values = corner(alloc, highs, bx)?;
     let columns = columns(alloc, highs)?;
-    let entries = first_entries(alloc, problem, cuts, bx, highs, values.as_slice())?;
-    let mut spare = List::new(alloc);
-    spare.append(entries.as_slice())?;
-    Ok(Tableau::new(columns, entries, spare, height_of(problem, cuts, bx)))
+    let width = columns.len() + 1;
+    let height = height_of(problem, cuts, bx);
+    let entries = first_entries(alloc, height * width, problem, cuts, bx, highs, values.as_slice())?;
+    let rows = entries.into_rows(alloc, width, height)?;
+    Ok(Tableau::new(columns, rows))
 }
 
 /// The tableau with a column for each variable: that of its distance from its high end where it raises the
