@@ -1,10 +1,11 @@
 -- Rows put behind rows, one row put in the place of another, and rows of whole entries.
-use Rattle.std.proofs.Common.{◌≡◌, ◌∙◌, refl, sym, ap, ap₂, ℕ, zero, suc, ◌+◌, ◌*◌, ◌/◌, ◌<◌, ◌≤◌, ◌^◌, ℤ, pos, negsuc, neg_ℤ, unsigned_abs, add-one, List, [], ◌∷◌, ◌++◌, length, get_or, set, take, drop, map, arith, All}
+use Rattle.std.proofs.Common.{◌≡◌, ◌∙◌, refl, sym, ap, ap₂, ℕ, zero, suc, ◌+◌, ◌-◌, ◌*◌, ◌/◌, ◌<◌, ◌≤◌, ◌^◌, ℤ, pos, negsuc, neg_ℤ, unsigned_abs, add-one, List, [], ◌∷◌, ◌++◌, length, get_or, set, take, drop, map, arith, All}
+use borrow.Rule.Slice.PartMut.{put_mid}
 use native.Mathlib.Nat.{zero-mul}
 use Rattle.std.specs.List.{drop-map, take-map}
 use Rattle.std.proofs.Math.Nat.{div-one, suc-mul}
 use Rattle.std.proofs.Math.Seq.{take-add}
-use Rattle.std.proofs.lemmas.List.{append_assoc, length-append, map-append, take_all, take_more, take_at, take-append-le, drop_at, drop-append-le, drop-drop, length-drop}
+use Rattle.std.proofs.lemmas.List.{append_assoc, length-append, map-append, take_all, take_more, take_at, take-append-le, drop_at, drop-append-le, drop-drop, get_or-set_same, length-drop}
 use Rattle.std.proofs.lemmas.List.Elements.{All-cons, All-drop, All-nil, All-take}
 use lib.Seq.{length-take-le}
 use Rattle.qm_math.specs.Fraction.{Fraction, whole}
@@ -102,3 +103,21 @@ module _ (w n i : ℕ) (numbers out new row : List ℤ) (inside : i < n) (row_is
       ∙ ap₂ (λ (rs : List (List ℤ)) (r : List ℤ). rs ++ (pos 1 ∷ r) ∷ []) before row_is
       ∙ sym (map-append (λ (r : List ℤ). pos 1 ∷ r) (take i all) (get_or all i [] ∷ []))
       ∙ ap (map (λ (r : List ℤ). pos 1 ∷ r)) (sym (take_more all i [] at))
+
+-- a part of a list that is written
+pub part_put : {A : Type 0} (a w : ℕ) (xs new : List A) → put_mid a (a + w - a) xs new ≡ take a xs ++ (new ++ drop w (drop a xs))
+part_put a w xs new = ap (λ (k : ℕ). take a xs ++ (new ++ drop k (drop a xs))) (let e : a + w - a ≡ w = omega arith in e)
+
+-- a row that is written over row i of a list of rows
+module _ {A : Type 0} (w n i : ℕ) (xs new out : List A) (h : i < n) (count : length xs ≡ n * w) (wide : length new ≡ w)
+    (is : out ≡ take (i * w) xs ++ (new ++ drop w (drop (i * w) xs))) where
+  rows_put : rows_of w n out ≡ set (rows_of w n xs) i new
+  rows_put = ap (rows_of w n) is ∙ row_put w n i xs new h count wide
+
+  pub put_here : get_or (rows_of w n out) i [] ≡ new
+  put_here =
+      ap (λ (rs : List (List A)). get_or rs i []) rows_put
+      ∙ get_or-set_same (rows_of w n xs) i new [] (let m = length_rows_of w n xs in omega (arith, h, m))
+
+  pub put_others : rows_of w n out ≡ set (rows_of w n xs) i (get_or (rows_of w n out) i [])
+  put_others = rows_put ∙ ap (set (rows_of w n xs) i) (sym put_here)

@@ -1,8 +1,8 @@
 -- How large products of small numbers and their differences are, and numbers as the code passes them on.
-use Rattle.std.proofs.Common.{◌≡◌, ◌*◌, ◌≤◌, ◌<◌, ◌^◌, ℤ, ◌*ℤ◌, ◌-ℤ◌, unsigned_abs, arith, to_z, of_z, w64}
+use Rattle.std.proofs.Common.{◌≡◌, ◌∙◌, sym, ap, pos, ◌*◌, ◌≤◌, ◌<◌, ◌^◌, ℤ, ◌*ℤ◌, ◌-ℤ◌, unsigned_abs, arith, to_z, of_z, w64}
 use Rattle.std.specs.Int.{w128}
 use Rattle.std.proofs.Math.Nat.{mul-le-mul}
-use Rattle.std.proofs.lemmas.Int.{ints, fits_signed_from_abs, to_z-of_z, unsigned_abs-mul}
+use Rattle.std.proofs.lemmas.Int.{ints, fits_signed_from_abs, to_z-of_z, to_z_pos, unsigned_abs-mul}
 
 pub product_small : (a b : ℤ) → unsigned_abs a ≤ 2 ^ 62 → unsigned_abs b ≤ 2 ^ 62 → unsigned_abs (a *ℤ b) ≤ 2 ^ 124
 product_small a b h k =
@@ -23,3 +23,7 @@ pub widened : (z r : ℤ) → unsigned_abs z ≤ 2 ^ 62 → r ≡ to_z w64 (of_z
 widened z r small is =
     let same : r ≡ z = rw is (passed_64 z small) in
     rw same (passed_128 z (omega (arith, small)))
+
+-- a number of which the code sees that it is 0
+pub zero_is : (z : ℤ) → unsigned_abs z ≤ 2 ^ 62 → of_z w64 z ≡ 0 → z ≡ pos 0
+zero_is z small is = sym (passed_64 z small) ∙ ap (to_z w64) is ∙ to_z_pos w64 0 (omega arith)

@@ -1,4 +1,4 @@
-ghost use Rattle.std.specs.Prelude.{◌≡◌, ◌<◌, ◌≤◌, ◌^◌, ◌++◌, All, ℕ, IfOk, OnOk, length, map, neg_ℤ, true, false, unsigned_abs};
+ghost use Rattle.std.specs.Prelude.{◌≡◌, ◌<◌, ◌≤◌, ◌^◌, ◌++◌, [], All, ℕ, OnOk, length, map, neg_ℤ, true, false, unsigned_abs};
 ghost use Rattle.std.specs.List.{flat_map};
 ghost use Rattle.qm_model.specs.Linear.{IsOrdered, coefficient};
 ghost use Rattle.qm_math.specs.Fraction.{whole};
@@ -10,7 +10,6 @@ use crate::sparse::{next_coefficient, turned};
 use qm_game::form_at;
 use qm_io::Memory;
 use qm_model::{Problem, Range, Row, Term};
-use std::alloc::Global;
 
 /// The coefficient, negated for each of the two that is so.
 fn number(high: bool, less: bool, coefficient: i128) -> i128
@@ -157,17 +156,17 @@ pub fn push_slacks(
     Ok(())
 }
 
-/// The rows of all quantities, one after the other: so many entries.
+/// Puts the rows of all quantities, one after the other, where nothing is.
 #[tactic(auto, using(crate::proofs::Pushed::all_rows))]
-pub fn first_entries(
-    alloc: Global,
-    count: usize,
+pub fn push_entries(
+    entries: &mut Entries,
     problem: &Problem,
     cuts: &[Row],
     bx: &[Range],
     highs: &[bool],
     values: &[i64],
-) -> Result<Entries, Memory>
+) -> Result<(), Memory>
+    requires empty { entries.old ≡ [] }
     requires few { length highs.now < 2 ^ 29 }
     requires few_values { length values.now < 2 ^ 29 }
     requires values { length values.now ≡ length bx.now }
@@ -175,20 +174,18 @@ pub fn first_entries(
     requires rows { All (λ row. HasRoom values.now row.right row.terms) problem.now.rows }
     requires urows { All (λ row. HasRoom values.now row.right row.terms) problem.now.urows }
     requires cuts { All (λ row. HasRoom values.now row.right row.terms) cuts.now }
-    ensures { IfOk result (λ entries. entries ≡ flat_map (first_row highs.now values.now) (quantities problem.now cuts.now bx.now)) }
+    ensures { OnOk result (entries.new ≡ flat_map (first_row highs.now values.now) (quantities problem.now cuts.now bx.now)) }
 {
-    let mut entries = Entries::new(alloc, count)?;
     push_row(
-        &mut entries,
+        entries,
         problem.constant,
         false,
         problem.terms.as_slice(),
         highs,
         values,
     )?;
-    push_bounds(&mut entries, bx, highs, values)?;
-    push_slacks(&mut entries, problem.rows.as_slice(), highs, values)?;
-    push_slacks(&mut entries, problem.urows.as_slice(), highs, values)?;
-    push_slacks(&mut entries, cuts, highs, values)?;
-    Ok(entries)
+    push_bounds(entries, bx, highs, values)?;
+    push_slacks(entries, problem.rows.as_slice(), highs, values)?;
+    push_slacks(entries, problem.urows.as_slice(), highs, values)?;
+    push_slacks(entries, cuts, highs, values)
 }

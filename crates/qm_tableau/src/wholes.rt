@@ -100,15 +100,45 @@ impl Wholes {
         ensures others { self.new.rows ≡ slice_set self.old.rows i (slice_index_or self.new.rows i []) }
         ensures width { self.new.width ≡ self.old.width }
     {
-        let _count = self.numbers.len();
-        let from = i * self.width;
-        update(
-            &mut self.numbers[from..from + self.width],
+        let (width, height) = (self.width, self.height);
+        update_at(
+            self.numbers.as_mut_slice(),
+            width,
+            height,
+            i,
             col,
             row,
             leaving,
         )
     }
+}
+
+/// Writes into row i of these rows, one after the other, what a pivot makes of a row, where its numbers are small.
+#[tactic(auto, using(crate::proofs::Cuts::row_below))]
+fn update_at(
+    numbers: &mut [i64],
+    width: usize,
+    height: usize,
+    i: usize,
+    col: usize,
+    row: &[i64],
+    leaving: &[i64],
+) -> bool
+    requires i { i < height }
+    requires count { length numbers.old ≡ height * width }
+    requires col { suc col < width }
+    requires row_width { length row.now ≡ width }
+    requires leaving_width { length leaving.now ≡ width }
+    requires row { IsSmallRow row.now }
+    requires leaving { IsSmallRow leaving.now }
+    requires pivot { pos 0 <ℤ at_place leaving.now (suc col) }
+    ensures updated { result ≡ true → IsUpdated col leaving.now row.now (slice_index_or (rows_of width height numbers.new) i []) }
+    ensures others { rows_of width height numbers.new ≡ slice_set (rows_of width height numbers.old) i (slice_index_or (rows_of width height numbers.new) i []) }
+    ensures count { length numbers.new ≡ length numbers.old }
+{
+    let _count = numbers.len();
+    let from = i * width;
+    update(&mut numbers[from..from + width], col, row, leaving)
 }
 
 /// The entry of a row in column k.

@@ -1,13 +1,20 @@
-use Rattle.std.proofs.Common.{rules, ◌≡◌, ◌<◌, ◌≤◌, ◌^◌, ℕ, true, pos, ◌*ℤ◌, ◌<ℤ◌, unsigned_abs, All, IfSome, length, suc, ◌+◌, ◌-◌, ◌*◌, ◌/◌, ◌%◌, Bool, false, nat_eq, nat_lt, List, [], ◌∷◌, ◌++◌, slice_index_or, slice_set, bit_and, bit_or, Fits, w8, w32, w64, Bor, MutBor}
-use Rattle.std.specs.Int.{◌∣◌}
-use Rattle.qm_tableau.specs.Wholes.{IsSmall, IsSmallRow, at_place}
-use Rattle.qm_tableau.specs.UpdateSteps.{HasParts, IsStep, IsUpdated, number_at}
+use Rattle.std.proofs.Common.{◌≡◌, ◌∙◌, ◌<◌, ◌+◌, ap, sym, add-one, arith, ℕ, pos, suc, length}
+use Rattle.qm_tableau.specs.Wholes.{at_place}
+use Rattle.qm_tableau.proofs.SmallNumbers.{zero_is}
+use Rattle.qm_tableau.proofs.UpdatedRows.{copied, written}
 use Rattle.qm_tableau.proofs.updating.update.Goals as goal
 
--- src/updating.rt:115:9
 pub returns-then-row-place-eq0-clause-updated : goal.returns-then-row-place-eq0-clause-updated
-returns-then-row-place-eq0-clause-updated c = ?
+returns-then-row-place-eq0-clause-updated c _ =
+    let row = c.args.row.now in
+    let r = c.requires in
+    let inside : c.args.col + 1 < length row = omega (arith, r.col) in
+    let none : at_place row (suc c.args.col) ≡ pos 0 =
+    ap (at_place row) (sym (add-one c.args.col)) ∙ zero_is (at_place row (c.args.col + 1)) (r.row.small (c.args.col + 1) (pos 0) inside) c.if-row-place-eq0.true in
+    rw c.copy_from_slice.ensures.after (copied c.args.col c.args.leaving.now row r.same r.col r.leaving r.row r.pivot none)
 
--- src/updating.rt:102:1
 pub returns-in-Some-clause-updated : goal.returns-in-Some-clause-updated
-returns-in-Some-clause-updated c = ?
+returns-in-Some-clause-updated c h =
+    let r = c.requires in
+    written c.args.col c.args.leaving.now c.args.row.now r.same r.col r.leaving r.row r.pivot (c.args.col + 1) c.in-Some.step c.divisor-divisor.result c.write.new.out
+    (add-one c.args.col) c.in-Some.ensures c.divisor-divisor.ensures.some (c.write.ensures.count ∙ r.room) (c.write.ensures.parts h)

@@ -1,5 +1,6 @@
-use Rattle.std.proofs.Common.{◌≡◌, ◌∙◌, ap, ap₂, ℕ, suc, ◌+◌, ◌∷◌, List, ℤ, pos, length, map, take, arith, add-one}
+use Rattle.std.proofs.Common.{◌≡◌, ◌∙◌, ap, ap₂, ℕ, suc, ◌+◌, ◌∷◌, ◌≤◌, List, ℤ, pos, length, map, take, arith, add-one}
 use Rattle.std.proofs.lemmas.List.{take_all}
+use Rattle.qm_tableau.specs.StoredSteps.{WholeRows}
 use Rattle.qm_tableau.specs.Tables.{rows_of}
 use Rattle.qm_tableau.proofs.Cuts.{length_rows_of}
 use Rattle.qm_tableau.proofs.RowLists.{count_more, rows_more}
@@ -18,4 +19,12 @@ loop-i-preserved c =
     }
 
 pub returns : goal.returns
-returns c = ?
+returns c =
+    let w = c.args.width in
+    let n = c.args.height in
+    let all = rows_of w n c.args.numbers.now in
+    let pair : ℕ → List (List ℤ) → WholeRows = λ k rs. record { width = k; rows = rs } in
+    let at_end : n ≡ c.loop-i.i = omega (arith, c.loop-i-test.false, c.loop-i.auto.i-end) in
+    let many : length all ≤ c.loop-i.i = let m = length_rows_of w n c.args.numbers.now in omega (arith, m, c.loop-i-test.false) in
+    c.new.ensures
+    ∙ ap₂ pair (add-one w) (ap₂ (λ (k m : ℕ). rows_of k m c.loop-i.out.items) (add-one w) at_end ∙ c.loop-i.invariant.rows ∙ ap (map (λ row. pos 1 ∷ row)) (take_all c.loop-i.i all many))

@@ -1,12 +1,17 @@
-use Rattle.std.proofs.Common.{rules, ◌≡◌, ◌*◌, ◌-◌, ◌<◌, ◌≤◌, ◌^◌, ◌∷◌, pos, ◌<ℤ◌, suc, All, IfOk, OnErr, length, map, int_lt, unsigned_abs, ℕ, ◌+◌, ◌/◌, ◌%◌, Bool, true, false, nat_eq, nat_lt, List, [], ◌++◌, slice_index_or, slice_set, bit_and, bit_or, Fits, w8, w32, w64, Bor, MutBor}
-use Rattle.qm_math.specs.Fraction.{whole}
-use Rattle.qm_tableau.specs.Tables.{entry_at, row_at, rows_of}
-use Rattle.qm_tableau.specs.Wholes.{IsSmall}
-use Rattle.qm_tableau.specs.Leaving.{giving}
-use Rattle.qm_tableau.specs.Pivoting.{new_rows}
-use Rattle.qm_tableau.specs.Rule.{is_greater}
+use Rattle.std.proofs.Common.{◌≡◌, ◌∙◌, ◌<◌, ◌+◌, suc, subst, sym, ap, add-one, arith, ℕ, ℤ, pos, List, [], length, map, get_or, All}
+use Rattle.std.specs.Prelude.{int_lt}
+use Rattle.qm_math.specs.Fraction.{Fraction}
+use Rattle.qm_tableau.specs.Tables.{Numbers, entry_at}
+use Rattle.qm_tableau.specs.Wholes.{at_place, fractions_of}
+use Rattle.qm_tableau.proofs.KeptRows.{are_whole, fraction_widths, kept_whole}
 use Rattle.qm_tableau.proofs.rows.Rows.height.Goals as goal
 
--- src/rows.rt:102:5
 pub returns-then-self-clause-widths : goal.returns-then-self-clause-widths
-returns-then-self-clause-widths c = ?
+returns-then-self-clause-widths c =
+    let r = c.self.inside in
+    let w = r.fractions.width in
+    let a = are_whole r.is_whole r.wholes r.others r.fractions r.spare c.if-self.true c.self.invariant in
+    let wide : All (λ row. length row ≡ suc w) r.wholes.rows = subst (λ (n : ℕ). All (λ row. length row ≡ n) r.wholes.rows) a.width c.height.ensures.widths in
+    let widths : All (λ row. length row ≡ w) (map fractions_of r.wholes.rows) = fraction_widths r.wholes.rows w wide in
+    subst (λ (n : Numbers). All (λ row. length row ≡ n.width) n.rows) c.self.view_is
+    (subst (λ (rs : List (List Fraction)). All (λ row. length row ≡ w) rs) (kept_whole r.is_whole r.wholes.rows r.fractions.rows c.if-self.true) widths)

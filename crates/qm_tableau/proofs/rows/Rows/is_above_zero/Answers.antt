@@ -1,12 +1,20 @@
-use Rattle.std.proofs.Common.{rules, ◌≡◌, ◌*◌, ◌-◌, ◌<◌, ◌≤◌, ◌^◌, ◌∷◌, pos, ◌<ℤ◌, suc, All, IfOk, OnErr, length, map, int_lt, unsigned_abs, ℕ, ◌+◌, ◌/◌, ◌%◌, Bool, true, false, nat_eq, nat_lt, List, [], ◌++◌, slice_index_or, slice_set, bit_and, bit_or, Fits, w8, w32, w64, Bor, MutBor, ℤ, ◌+ℤ◌, ◌-ℤ◌, ◌*ℤ◌, ◌≤ℤ◌, FitsSigned, to_z, of_z}
-use Rattle.qm_math.specs.Fraction.{whole}
-use Rattle.qm_tableau.specs.Tables.{entry_at, row_at, rows_of}
-use Rattle.qm_tableau.specs.Wholes.{IsSmall}
-use Rattle.qm_tableau.specs.Leaving.{giving}
-use Rattle.qm_tableau.specs.Pivoting.{new_rows}
-use Rattle.qm_tableau.specs.Rule.{is_greater}
+use Rattle.std.proofs.Common.{◌≡◌, ◌∙◌, ◌<◌, ◌+◌, suc, subst, sym, ap, add-one, arith, ℕ, ℤ, pos, List, [], length, map, get_or, All}
+use Rattle.std.specs.Prelude.{int_lt}
+use Rattle.qm_math.specs.Fraction.{Fraction}
+use Rattle.qm_tableau.specs.Tables.{Numbers, entry_at}
+use Rattle.qm_tableau.specs.Wholes.{at_place, fractions_of}
+use Rattle.qm_tableau.proofs.SmallNumbers.{passed_64}
+use Rattle.qm_tableau.proofs.KeptRows.{above_entry, rows_inside}
 use Rattle.qm_tableau.proofs.rows.Rows.is_above_zero.Goals as goal
 
--- src/rows.rt:140:5
 pub returns-then-self : goal.returns-then-self
-returns-then-self c = ?
+returns-then-self c =
+    let r = c.self.inside in
+    let k = c.args.k in
+    let row = get_or r.wholes.rows c.args.i [] in
+    let s = rows_inside r.is_whole r.wholes r.others r.fractions r.spare c.args.self.now c.args.i k c.if-self.true c.self.invariant c.self.view_is c.requires.row c.requires.column c.row.result.now c.row.ensures.row c.row.ensures.width in
+    let in_row : k + 1 < length row = omega (arith, s.column) in
+    rw (c.row.ensures.row, passed_64 (at_place row (k + 1)) ((s.small c.args.i [] s.row).small (k + 1) (pos 0) in_row))
+    (ap (λ (n : ℕ). int_lt (pos 0) (at_place row n)) (add-one k)
+    ∙ sym (above_entry r.wholes.rows c.args.i k s.row s.small s.column)
+    ∙ ap (λ (rs : List (List Fraction)). int_lt (pos 0) (entry_at rs c.args.i k).num) (sym s.rows))

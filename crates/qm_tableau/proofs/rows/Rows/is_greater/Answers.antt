@@ -1,17 +1,26 @@
-use Rattle.std.proofs.Common.{rules, ◌≡◌, ◌*◌, ◌-◌, ◌<◌, ◌≤◌, ◌^◌, ◌∷◌, pos, ◌<ℤ◌, suc, All, IfOk, OnErr, length, map, int_lt, unsigned_abs, ℕ, ◌+◌, ◌/◌, ◌%◌, Bool, true, false, nat_eq, nat_lt, List, [], ◌++◌, slice_index_or, slice_set, bit_and, bit_or, Fits, w8, w32, w64, Bor, MutBor}
-use Rattle.qm_math.specs.Fraction.{whole}
-use Rattle.qm_tableau.specs.Tables.{entry_at, row_at, rows_of}
-use Rattle.qm_tableau.specs.Wholes.{IsSmall}
-use Rattle.qm_tableau.specs.Leaving.{giving}
-use Rattle.qm_tableau.specs.Pivoting.{new_rows}
-use Rattle.qm_tableau.specs.Rule.{is_greater}
+use Rattle.std.proofs.Common.{◌≡◌, ◌∙◌, ◌<◌, ◌+◌, suc, subst, sym, ap, add-one, arith, ℕ, ℤ, pos, List, [], length, map, get_or, All}
+use Rattle.std.specs.Prelude.{int_lt}
+use Rattle.qm_math.specs.Fraction.{Fraction}
+use Rattle.qm_tableau.specs.Tables.{Numbers, entry_at}
+use Rattle.qm_tableau.specs.Wholes.{at_place, fractions_of}
+use Rattle.std.proofs.Common.{◌<ℤ◌}
+use Rattle.qm_tableau.proofs.KeptRows.{entry_positive, rows_inside}
 use Rattle.qm_tableau.proofs.rows.Rows.is_greater.Goals as goal
 
--- src/rows.rt:164:16
 pub is_greater_in_wholes-requires-clause-by : goal.is_greater_in_wholes-requires-clause-by
-is_greater_in_wholes-requires-clause-by c = ?
+is_greater_in_wholes-requires-clause-by c =
+    let r = c.self.inside in
+    let i = c.args.row in
+    let k = c.args.k in
+    let s = rows_inside r.is_whole r.wholes r.others r.fractions r.spare c.args.self.now i k c.if-self.true c.self.invariant c.self.view_is c.requires.row c.requires.k c.row.result.now c.row.ensures.row c.row.ensures.width in
+    rw c.row.ensures.row (entry_positive r.wholes.rows i k s.row s.small s.column
+    (subst (λ (rs : List (List Fraction)). pos 0 <ℤ (entry_at rs i k).num) s.rows c.requires.by))
 
--- src/rows.rt:164:16
-pub is_greater_in_wholes-requires-clause-best_by :
-    goal.is_greater_in_wholes-requires-clause-best_by
-is_greater_in_wholes-requires-clause-best_by c = ?
+pub is_greater_in_wholes-requires-clause-best_by : goal.is_greater_in_wholes-requires-clause-best_by
+is_greater_in_wholes-requires-clause-best_by c =
+    let r = c.self.inside in
+    let i = c.args.row in
+    let k = c.args.best in
+    let s = rows_inside r.is_whole r.wholes r.others r.fractions r.spare c.args.self.now i k c.if-self.true c.self.invariant c.self.view_is c.requires.row c.requires.best c.row.result.now c.row.ensures.row c.row.ensures.width in
+    rw c.row.ensures.row (entry_positive r.wholes.rows i k s.row s.small s.column
+    (subst (λ (rs : List (List Fraction)). pos 0 <ℤ (entry_at rs i k).num) s.rows c.requires.best_by))

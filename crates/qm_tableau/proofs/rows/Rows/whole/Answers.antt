@@ -1,16 +1,13 @@
-use Rattle.std.proofs.Common.{rules, ◌≡◌, ◌*◌, ◌-◌, ◌<◌, ◌≤◌, ◌^◌, ◌∷◌, pos, ◌<ℤ◌, suc, All, IfOk, OnErr, length, map, int_lt, unsigned_abs, ℕ, ◌+◌, ◌/◌, ◌%◌, Bool, true, false, nat_eq, nat_lt, List, [], ◌++◌, slice_index_or, slice_set, bit_and, bit_or, Fits, w8, w32, w64, Bor, MutBor}
-use Rattle.qm_math.specs.Fraction.{whole}
-use Rattle.qm_tableau.specs.Tables.{entry_at, row_at, rows_of}
-use Rattle.qm_tableau.specs.Wholes.{IsSmall}
-use Rattle.qm_tableau.specs.Leaving.{giving}
-use Rattle.qm_tableau.specs.Pivoting.{new_rows}
-use Rattle.qm_tableau.specs.Rule.{is_greater}
+use Rattle.qm_tableau.proofs.KeptRows.{first_kept, first_seen}
 use Rattle.qm_tableau.proofs.rows.Rows.whole.Goals as goal
 
--- src/rows.rt:61:9
 pub invariant_of-result : goal.invariant_of-result
-invariant_of-result c = ?
+invariant_of-result c =
+    let f = c.in_ok-fractions.ensures in
+    let s = c.in_ok-spare.ensures in
+    first_kept c.args.width c.args.height c.args.numbers.items c.in_ok-wholes.wholes c.in_ok-others.others c.in_ok-fractions.fractions c.in_ok-spare.spare c.in_ok-wholes.ensures f.width
+    c.requires.small c.in_ok-others.ensures f.rows f.spare s.rows s.width s.spare
 
--- src/rows.rt:45:5
 pub returns : goal.returns
-returns c = ?
+returns c =
+    first_seen c.args.width c.args.height c.args.numbers.items c.in_ok-wholes.wholes c.in_ok-others.others c.in_ok-fractions.fractions c.in_ok-spare.spare c.in_ok-wholes.ensures c.in_ok-fractions.ensures.width
