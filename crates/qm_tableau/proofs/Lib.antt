@@ -22,5 +22,6 @@ pub mod Constants
 pub mod Moving
 pub mod FirstGood
 pub mod Greatest
+pub mod AlwaysChosen
 pub mod PivotColumns
 pub mod PivotGood

@@ -108,13 +108,15 @@ fn first_numbers(
     requires rows { All (λ row. HasRoom values.now row.right row.terms) problem.now.rows }
     requires urows { All (λ row. HasRoom values.now row.right row.terms) problem.now.urows }
     requires cuts { All (λ row. HasRoom values.now row.right row.terms) cuts.now }
-    ensures { IfOk result (λ r. r ≡ record { width = suc (length highs.now); rows = map (first_row highs.now values.now) (quantities problem.now cuts.now bx.now) }) }
+    ensures few { IfOk result (λ r. length r.rows < 2 ^ 32) }
+    ensures rows { IfOk result (λ r. r ≡ record { width = suc (length highs.now); rows = map (first_row highs.now values.now) (quantities problem.now cuts.now bx.now) }) }
 {
     let width = highs.len() + 1;
     let height = height_of(problem, cuts, bx);
     let mut entries = Entries::new(alloc, height * width)?;
     push_entries(&mut entries, problem, cuts, bx, highs, values)?;
-    entries.into_rows(alloc, width, height)
+    let numbers = entries.into_rows(alloc, width, height)?;
+    Ok(numbers)
 }
 
 /// The tableau whose columns are of these ends.

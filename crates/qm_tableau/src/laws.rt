@@ -1,4 +1,4 @@
-ghost use Rattle.std.specs.Prelude.{◌≡◌, ◌<◌, ◌≤◌, ◌-◌, ◌<ℤ◌, ℕ, ℤ, suc, Ok, List, [], All, Contains, length, map, pos, slice_index_or, slice_set, unsigned_abs};
+ghost use Rattle.std.specs.Prelude.{◌≡◌, ◌<◌, ◌≤◌, ◌-◌, ◌<ℤ◌, ℕ, ℤ, suc, Ok, List, [], All, Contains, IsOk, length, map, pos, slice_index_or, slice_set, unsigned_abs};
 ghost use Rattle.std.specs.List.{AllZip};
 ghost use Rattle.qm_math.specs.Fraction.{Fraction, HasPositiveDen, IsBelow, IsSame, whole};
 ghost use Rattle.qm_math.specs.Lexicographic.{IsLexBelow, IsLexNegative};
@@ -32,6 +32,11 @@ pub fn whole_rows_are_pivoted()
     ensures { (t : Table) (rows : List (List ℤ)) (r c : ℕ) → AreSmallRows t rows → r < length rows →
         c ≤ length t.columns → pos 0 <ℤ at_place (slice_index_or rows r []) (suc c) →
         pivoted t r c ≡ Ok (record { columns = slice_set t.columns (c - 1) r; rows = map (λ row. fractions_of (updated_row c (slice_index_or rows r []) row)) rows }) }
+{}
+
+/// Nor does any operation of the rule leave on such rows.
+pub fn the_rule_never_leaves_whole_rows()
+    ensures { (t : Table) (rows : List (List ℤ)) → AreSmallRows t rows → IsOk (chosen t) }
 {}
 
 /// A pivot keeps every row the same function: at any values of the columns' quantities, with what the

@@ -31,7 +31,7 @@ pub use choice::Choice;
 pub use laws::{
     pivots_are_exact, pivots_keep_every_row, pivots_keep_tableaus_good, pivots_lower_the_constants,
     the_columns_decide_the_constants, the_first_columns_are_negative, the_first_tableau_is_good,
-    whole_rows_are_pivoted,
+    the_rule_never_leaves_whole_rows, whole_rows_are_pivoted,
 };
 pub use leaves_at::LeavesAt;
 pub use tableau::Tableau;

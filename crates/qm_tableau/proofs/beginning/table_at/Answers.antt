@@ -14,7 +14,7 @@ pub new-requires-clause-width : goal.new-requires-clause-width
 new-requires-clause-width c =
     let many : length c.in_ok-columns.columns ≡ length c.args.highs.now =
     ap (λ (cs : List ℕ). length cs) c.in_ok-columns.ensures ∙ length_columns 0 c.args.highs.now in
-    ap (λ (n : Numbers). n.width) c.in_ok-numbers.ensures ∙ ap suc (sym many)
+    ap (λ (n : Numbers). n.width) c.in_ok-numbers.ensures.rows ∙ ap suc (sym many)
 
 pub first_numbers-requires-clause-cuts : goal.first_numbers-requires-clause-cuts
 first_numbers-requires-clause-cuts c =

@@ -14,7 +14,10 @@ returns-clause-updated c h =
     let i = c.args.i in
     let xs = c.args.numbers.now in
     let new = c.update.new.out in
-    let wide : length new ≡ w = ? in
+    let most = row_below n w i c.requires.i in
+    let rest = length-drop (i * w) xs in
+    let size : i * w + w - i * w ≡ w = omega arith in
+    let wide : length new ≡ w = c.update.ensures.count ∙ length-take-le (i * w + w - i * w) (drop (i * w) xs) (omega (arith, most, rest, size, c.requires.count)) ∙ size in
     let out = put_mid (i * w) (i * w + w - i * w) xs new in
     let here : get_or (rows_of w n out) i [] ≡ new = put_here w n i xs new out c.requires.i c.requires.count wide (part_put (i * w) w xs new) in
     subst (λ (r : List ℤ). IsUpdated c.args.col c.args.leaving.now c.args.row.now r) (sym here) (c.update.ensures.updated h)
@@ -26,5 +29,8 @@ returns-clause-others c =
     let i = c.args.i in
     let xs = c.args.numbers.now in
     let new = c.update.new.out in
-    let wide : length new ≡ w = ? in
+    let most = row_below n w i c.requires.i in
+    let rest = length-drop (i * w) xs in
+    let size : i * w + w - i * w ≡ w = omega arith in
+    let wide : length new ≡ w = c.update.ensures.count ∙ length-take-le (i * w + w - i * w) (drop (i * w) xs) (omega (arith, most, rest, size, c.requires.count)) ∙ size in
     put_others w n i xs new (put_mid (i * w) (i * w + w - i * w) xs new) c.requires.i c.requires.count wide (part_put (i * w) w xs new)
