@@ -36,8 +36,7 @@ fn main(rt: HostRuntime) -> io::Result<()> {
         [work, size, seed, times] => {
             match Runs::read(work.as_str(), size.as_str(), seed.as_str(), times.as_str()) {
                 Some(runs) => match runs.last(alloc) {
-                    Ok(ended) => println!(
-                        rt;
+                    Ok(ended) => println!(rt;
                         "{} {} {}",
                         ended.ending.word(),
                         ended.pivots,

@@ -24,6 +24,10 @@ by_order all rest Less later e = (false, e)
 by_order all rest Equal later e = (later.0, e ∙ later.1)
 by_order all rest Greater later e = (true, e)
 
+either : (b : Bool) (x y : Placed (Option ℕ)) → (b ≡ true → (o : Option ℕ) × (x ≡ Ok o)) → ((o : Option ℕ) × (y ≡ Ok o)) → (o : Option ℕ) × ((let z : Placed (Option ℕ) = if b then x else y in z) ≡ Ok o)
+either true x y f g = f refl
+either false x y f g = g
+
 module _ (rows : List (List ℤ)) (w : ℕ) (small : All IsSmallRow rows) (widths : All (λ row. length row ≡ w) rows) (leaving : List ℤ) (l : IsSmallRow leaving) (count : length leaving ≡ w) where
   abbrev IsCandidate : ℕ → Type 0
   IsCandidate b = (suc b < w) × (pos 0 <ℤ at_place leaving (suc b))
@@ -47,42 +51,33 @@ module _ (rows : List (List ℤ)) (w : ℕ) (small : All IsSmallRow rows) (width
       → (b : ℕ) × (greater_column (map fractions_of rows) (fractions_of leaving) k best ≡ Ok b) × IsCandidate b
   picked k None kc bc = (k, refl, kc)
   picked k (Some b) kc bc =
-      let r = compared k b 0 kc bc rows small widths in
-      ((if r.0 then k else b),
+      let r = compared k b 0 kc bc rows small widths in (
+        (if r.0 then k else b),
         ap (λ (p : Placed Bool). next p (λ greater. Ok (if greater then k else b))) r.1,
-        greater_of r.0 k b kc bc)
+        greater_of r.0 k b kc bc,
+      )
+
+  candidate_by_test : (k : ℕ) (t : Fraction) → suc k < w → t ≡ entry_of (fractions_of leaving) k → int_lt (pos 0) t.num ≡ true → IsCandidate k
+  candidate_by_test k t inside here e =
+      let in_row : suc k < length leaving = omega (arith, inside, count) in
+      let den : 0 < unsigned_abs (at_place leaving 0) = (let p = l.positive in omega (arith, ints, p)) in
+      let test : int_lt (pos 0) (at_place leaving (suc k)) ≡ true =
+      sym (above_lowest (at_place leaving (suc k)) (unsigned_abs (at_place leaving 0)) den)
+      ∙ sym (ap (λ (x : Fraction). int_lt (pos 0) x.num) (here ∙ entry_in_row leaving k in_row)) ∙ e in
+      (inside, lt_of_test (pos 0) (at_place leaving (suc k)) test)
 
   entered : (ts : List Fraction) (k : ℕ) (best : Option ℕ) → suc (k + length ts) ≤ w → ((j : ℕ) → entry_of ts j ≡ entry_of (fractions_of leaving) (k + j)) → IfSome best IsCandidate
       → (o : Option ℕ) × (entering_column (map fractions_of rows) (fractions_of leaving) k best ts ≡ Ok o)
   entered [] k best inside at bc = (best, refl)
-  entered (t ∷ ts) k best inside at bc = by_test (int_lt (pos 0) t.num) refl
-    where
-      fits : suc (suc k + length ts) ≤ w
-      fits = omega (arith, inside)
-
-      later_at : (j : ℕ) → entry_of ts j ≡ entry_of (fractions_of leaving) (suc k + j)
-      later_at j = at (suc j) ∙ ap (λ (n : ℕ). entry_of (fractions_of leaving) n) (let e : k + suc j ≡ suc k + j = omega arith in e)
-
-      here : t ≡ entry_of (fractions_of leaving) k
-      here = at 0 ∙ ap (λ (n : ℕ). entry_of (fractions_of leaving) n) (let e : k + 0 ≡ k = omega arith in e)
-
-      candidate : int_lt (pos 0) t.num ≡ true → IsCandidate k
-      candidate e =
-          let in_row : suc k < length leaving = omega (arith, inside, count) in
-          let den : 0 < unsigned_abs (at_place leaving 0) = (let p = l.positive in omega (arith, ints, p)) in
-          let test : int_lt (pos 0) (at_place leaving (suc k)) ≡ true =
-          sym (above_lowest (at_place leaving (suc k)) (unsigned_abs (at_place leaving 0)) den)
-          ∙ sym (ap (λ (x : Fraction). int_lt (pos 0) x.num) (here ∙ entry_in_row leaving k in_row)) ∙ e in
-          (omega (arith, inside), lt_of_test (pos 0) (at_place leaving (suc k)) test)
-
-      by_test : (b : Bool) → int_lt (pos 0) t.num ≡ b
-          → (o : Option ℕ) × ((let z : Placed (Option ℕ) = if b then next (greater_column (map fractions_of rows) (fractions_of leaving) k best) (λ c. entering_column (map fractions_of rows) (fractions_of leaving) (suc k) (Some c) ts)
-          else entering_column (map fractions_of rows) (fractions_of leaving) (suc k) best ts in z) ≡ Ok o)
-      by_test true e =
-          let p = picked k best (candidate e) bc in
-          let r = entered ts (suc k) (Some p.0) fits later_at p.2 in
-          (r.0, ap (λ (q : Placed ℕ). next q (λ c. entering_column (map fractions_of rows) (fractions_of leaving) (suc k) (Some c) ts)) p.1 ∙ r.1)
-      by_test false e = entered ts (suc k) best fits later_at bc
+  entered (t ∷ ts) k best inside at bc =
+      let fits : suc (suc k + length ts) ≤ w = omega (arith, inside) in
+      let here : t ≡ entry_of (fractions_of leaving) k = at 0 ∙ ap (λ (n : ℕ). entry_of (fractions_of leaving) n) (let e : k + 0 ≡ k = omega arith in e) in
+      let later_at = λ (j : ℕ). at (suc j) ∙ ap (λ (n : ℕ). entry_of (fractions_of leaving) n) (let e : k + suc j ≡ suc k + j = omega arith in e) in
+      either (int_lt (pos 0) t.num) _ _
+      (λ e. (let p = picked k best (candidate_by_test k t (omega (arith, inside)) here e) bc in
+      let r = entered ts (suc k) (Some p.0) fits later_at p.2 in
+      (r.0, ap (λ (q : Placed ℕ). next q (λ c. entering_column (map fractions_of rows) (fractions_of leaving) (suc k) (Some c) ts)) p.1 ∙ r.1)))
+      (entered ts (suc k) best fits later_at bc)
 
 pub always_chosen : (t : Table) (rows : List (List ℤ)) → AreSmallRows t rows → (c : Choice) × (chosen t ≡ Ok c)
 always_chosen t rows s = by_row (leaving_row 1 (drop 1 t.rows)) refl
@@ -99,8 +94,9 @@ always_chosen t rows s = by_row (leaving_row 1 (drop 1 t.rows)) refl
         let n : length (fractions_of leaving) ≡ suc (length t.columns) = length_fractions leaving (suc (length t.columns)) wide in
         let rest : length (drop 1 (fractions_of leaving)) ≡ length t.columns = length-drop 1 (fractions_of leaving) ∙ (omega (arith, n)) in
         let all = entered rows w s.small s.width leaving (s.small r [] below) wide (drop 1 (fractions_of leaving)) 1 None (omega (arith, rest)) (entry_of-drop (fractions_of leaving)) tt in
-        let row : row_at t.rows r ≡ fractions_of leaving = ap (λ (xs : List (List Fraction)). row_at xs r) s.fractions ∙ row_in_rows rows r below in
-        (choice_of r all.0,
+        let row : row_at t.rows r ≡ fractions_of leaving = ap (λ (xs : List (List Fraction)). row_at xs r) s.fractions ∙ row_in_rows rows r below in (
+          choice_of r all.0,
           ap (λ (f : List Fraction). (let p : Placed Choice = next (entering_column t.rows f 1 None (drop 1 f)) (λ best. Ok (choice_of r best)) in p)) row
-          ∙ ap (λ (xs : List (List Fraction)). (let p : Placed Choice = next (entering_column xs (fractions_of leaving) 1 None (drop 1 (fractions_of leaving))) (λ best. Ok (choice_of r best)) in p)) s.fractions
-          ∙ ap (λ (p : Placed (Option ℕ)). next p (λ best. Ok (choice_of r best))) all.1)
+              ∙ ap (λ (xs : List (List Fraction)). (let p : Placed Choice = next (entering_column xs (fractions_of leaving) 1 None (drop 1 (fractions_of leaving))) (λ best. Ok (choice_of r best)) in p)) s.fractions
+              ∙ ap (λ (p : Placed (Option ℕ)). next p (λ best. Ok (choice_of r best))) all.1,
+        )

@@ -1,5 +1,6 @@
 -- How large products of small numbers and their differences are, and numbers as the code passes them on.
-use Rattle.std.proofs.Common.{◌≡◌, ◌∙◌, sym, ap, pos, ◌*◌, ◌≤◌, ◌<◌, ◌^◌, ℤ, ◌*ℤ◌, ◌-ℤ◌, unsigned_abs, arith, to_z, of_z, w64}
+use Rattle.std.proofs.Common.{◌≡◌, ◌∙◌, false, sym, ap, pos, ◌<ℤ◌, ◌*◌, ◌≤◌, ◌<◌, ◌^◌, ℤ, ◌*ℤ◌, ◌-ℤ◌, unsigned_abs, arith, to_z, of_z, w64}
+use Rattle.std.specs.Prelude.{int_le}
 use Rattle.std.specs.Int.{w128}
 use Rattle.std.proofs.Math.Nat.{mul-le-mul}
 use Rattle.std.proofs.lemmas.Int.{ints, fits_signed_from_abs, to_z-of_z, to_z_pos, unsigned_abs-mul}
@@ -27,3 +28,7 @@ widened z r small is =
 -- a number of which the code sees that it is 0
 pub zero_is : (z : ℤ) → unsigned_abs z ≤ 2 ^ 62 → of_z w64 z ≡ 0 → z ≡ pos 0
 zero_is z small is = sym (passed_64 z small) ∙ ap (to_z w64) is ∙ to_z_pos w64 0 (omega arith)
+
+-- a number of which the code sees that it isn't at most 0
+pub above_is : (z : ℤ) → int_le z (pos 0) ≡ false → pos 0 <ℤ z
+above_is z h = grind (arith, ints)

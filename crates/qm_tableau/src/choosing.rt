@@ -21,12 +21,7 @@ fn leaving_row(numbers: &Rows) -> Option<u32>
 }
 
 /// The greater one of column k and the best so far, where row `row` leaves.
-fn greater_column(
-    numbers: &Rows,
-    row: u32,
-    k: u32,
-    best: Option<u32>,
-) -> Result<u32, LeavesAt>
+fn greater_column(numbers: &Rows, row: u32, k: u32, best: Option<u32>) -> Result<u32, LeavesAt>
     requires few { length numbers.now.rows < 2 ^ 32 }
     requires few_columns { numbers.now.width < 2 ^ 32 }
     requires row { row < length numbers.now.rows }
@@ -47,12 +42,7 @@ fn greater_column(
 }
 
 /// The greater one of column k and the best so far, where column k is a candidate.
-fn with_column(
-    numbers: &Rows,
-    row: u32,
-    k: u32,
-    best: Option<u32>,
-) -> Result<Option<u32>, LeavesAt>
+fn with_column(numbers: &Rows, row: u32, k: u32, best: Option<u32>) -> Result<Option<u32>, LeavesAt>
     requires few { length numbers.now.rows < 2 ^ 32 }
     requires few_columns { numbers.now.width < 2 ^ 32 }
     requires row { row < length numbers.now.rows }

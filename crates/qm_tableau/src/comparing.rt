@@ -81,12 +81,7 @@ fn order_in(row: &[i64], leaving: &[i64], k: usize, best: usize) -> Ordering
     requires best { suc best < length row.now }
     ensures { result ≡ int_cmp (at_place row.now (suc k) *ℤ at_place leaving.now (suc best)) (at_place row.now (suc best) *ℤ at_place leaving.now (suc k)) }
 {
-    order_of(
-        row[k + 1],
-        leaving[k + 1],
-        row[best + 1],
-        leaving[best + 1],
-    )
+    order_of(row[k + 1], leaving[k + 1], row[best + 1], leaving[best + 1])
 }
 
 /// The same on rows of whole numbers, where no operation leaves.

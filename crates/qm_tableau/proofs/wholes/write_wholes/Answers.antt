@@ -7,7 +7,7 @@ use Rattle.qm_tableau.specs.Leaving.{Placed}
 use Rattle.qm_tableau.specs.Pivoting.{new_rows}
 use Rattle.qm_tableau.specs.Wholes.{IsSmallRow, at_place, fractions_of, updated_row}
 use Rattle.qm_tableau.specs.UpdateSteps.{IsUpdated}
-use Rattle.qm_tableau.proofs.SmallNumbers.{passed_64}
+use Rattle.qm_tableau.proofs.SmallNumbers.{above_is, passed_64}
 use Rattle.qm_tableau.proofs.NoLeaving.{rows_are}
 use Rattle.qm_tableau.proofs.UpdatedRows.{all_small, all_updated}
 use Rattle.qm_tableau.proofs.wholes.write_wholes.Goals as goal
@@ -41,7 +41,7 @@ returns c =
     let wide : length leaving ≡ c.args.numbers.now.width = c.row-leaving.ensures.width in
     let inside : c.args.col + 1 < length leaving = omega (arith, wide, c.requires.col) in
     let passed = passed_64 (at_place leaving (c.args.col + 1)) (small.small (c.args.col + 1) (pos 0) inside) in
-    let above : pos 0 <ℤ at_place leaving (c.args.col + 1) = rw passed at c.if-leaving-col-le0.false in
+    let above : pos 0 <ℤ at_place leaving (c.args.col + 1) = above_is (at_place leaving (c.args.col + 1)) (rw passed at c.if-leaving-col-le0.false) in
     let some : pos 0 <ℤ at_place leaving (suc c.args.col) = subst (λ (k : ℕ). pos 0 <ℤ at_place leaving k) (add-one c.args.col) above in
     let all = rows_are c.args.col 0 c.args.numbers.now.width leaving rows small wide c.requires.col some c.requires.small c.height-i-end.ensures.widths in
     record {
