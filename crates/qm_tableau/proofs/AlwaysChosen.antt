@@ -1,5 +1,5 @@
 -- The rule's choice on rows of small whole numbers: no operation of it leaves.
-use Rattle.std.proofs.Common.{◌≡◌, ◌∙◌, refl, sym, ap, subst, ℕ, suc, ◌+◌, ◌≤◌, ◌<◌, ℤ, pos, ◌*ℤ◌, ◌<ℤ◌, unsigned_abs, arith, Bool, true, false, Option, Some, None, List, [], ◌∷◌, length, drop, get_or, map, All, Ok}
+use Rattle.std.proofs.Common.{◌≡◌, ◌∙◌, refl, sym, ap, ℕ, suc, ◌+◌, ◌≤◌, ◌<◌, ℤ, pos, ◌*ℤ◌, ◌<ℤ◌, unsigned_abs, arith, Bool, true, false, Option, Some, None, List, [], ◌∷◌, length, drop, get_or, map, All, Ok}
 use Rattle.std.specs.Prelude.{if◌then◌else◌, int_lt, IfSome}
 use Rattle.std.specs.declared.cmp.Ordering.{Ordering}
 use Rattle.std.specs.declared.cmp.Ordering.TheVariants.{Less, Equal, Greater}

@@ -1,5 +1,5 @@
 -- What the rule's choice says of the leaving row and of the entering column.
-use Rattle.std.proofs.Common.{◌≡◌, ◌∙◌, refl, sym, ap, subst, ℕ, suc, ◌+◌, ◌<◌, ◌≤◌, ◌⊎◌, inl, inr, ⊎_elim, Bool, true, false, List, [], ◌∷◌, length, drop, arith, All, Option, Some, None, Ok, ℤ, pos, ◌*ℤ◌, ◌<ℤ◌, unsigned_abs, Ordering, Less, Equal, Greater, if◌then◌else◌, int_lt}
+use Rattle.std.proofs.Common.{◌≡◌, ◌∙◌, refl, sym, ap, subst, ℕ, suc, ◌+◌, ◌<◌, ◌≤◌, ◌⊎◌, inl, inr, ⊎_elim, Bool, true, false, List, [], ◌∷◌, length, drop, arith, All, Option, Some, None, Ok, pos, ◌*ℤ◌, ◌<ℤ◌, unsigned_abs, Ordering, Less, Equal, Greater, if◌then◌else◌, int_lt}
 use Rattle.std.specs.List.{AllZip}
 use Rattle.std.specs.Ordering.{MatchOrdering}
 use Rattle.std.specs.Cmp.{int_ranks}

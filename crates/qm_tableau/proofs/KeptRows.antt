@@ -1,17 +1,16 @@
 -- Rows that are kept in one of two forms, seen as rows of fractions.
-use Rattle.std.proofs.Common.{◌≡◌, ◌∙◌, refl, sym, ap, ap₂, ℕ, zero, suc, ◌+◌, ◌*◌, ◌<◌, ◌≤◌, ◌^◌, ℤ, pos, ◌<ℤ◌, unsigned_abs, Bool, true, false, List, [], ◌∷◌, length, get_or, map, arith, All, Ok}
+use Rattle.std.proofs.Common.{◌≡◌, ◌∙◌, refl, sym, ap, ap₂, ℕ, suc, ◌*◌, ◌<◌, ◌≤◌, ℤ, pos, ◌<ℤ◌, unsigned_abs, Bool, true, false, List, [], ◌∷◌, length, get_or, map, arith, All}
 use Rattle.std.specs.Prelude.{int_lt}
 use Rattle.std.proofs.lemmas.Int.{ints}
-use Rattle.std.proofs.lemmas.List.{get_or-map, length-map, get_or_default}
+use Rattle.std.proofs.lemmas.List.{get_or-map, length-map}
 use Rattle.qm_math.specs.Fraction.{Fraction, whole}
 use Rattle.qm_math.proofs.WholeTests.{lt_of_test, test_of_lt}
-use Rattle.qm_frac.specs.Lowest.{lowest}
-use Rattle.qm_tableau.specs.Tables.{Numbers, entry_at, entry_of, row_at, rows_of}
+use Rattle.qm_tableau.specs.Tables.{Numbers, entry_at, rows_of}
 use Rattle.qm_tableau.specs.Wholes.{IsSmall, IsSmallRow, at_place, fractions_of}
 use Rattle.qm_tableau.specs.StoredSteps.{AreFractions, AreKept, AreWhole, FractionRows, IsRoom, WholeRows, kept_rows}
 use Rattle.qm_tableau.proofs.Cuts.{length_rows_of}
 use Rattle.qm_tableau.proofs.RowLists.{rows_over_one, small_over_one}
-use Rattle.qm_tableau.proofs.WholeEntries.{above_lowest, below_lowest, entry_in_row, entry_in_rows, length_fractions, row_in_rows}
+use Rattle.qm_tableau.proofs.WholeEntries.{above_lowest, below_lowest, entry_in_rows, length_fractions}
 
 -- ---- which form it is
 

@@ -1,28 +1,24 @@
 -- The signs of entries of whole rows, and the order of two quotients of one.
-use Rattle.std.proofs.Common.{◌≡◌, ◌∙◌, refl, sym, ap, ap₂, ℕ, zero, suc, ◌*◌, ◌<◌, ◌≤◌, ◌^◌, ℤ, pos, negsuc, ◌*ℤ◌, ◌<ℤ◌, ◌≤ℤ◌, unsigned_abs, arith, mul-pos, Bool, true, false, ◌+◌, add-one, List, [], ◌∷◌, length, get_or, map, drop, All, Ok}
-use Rattle.std.specs.Prelude.{int_lt}
+use Rattle.std.proofs.Common.{◌≡◌, ◌∙◌, refl, sym, ap, ap₂, ℕ, suc, ◌*◌, ◌<◌, ℤ, pos, ◌*ℤ◌, ◌<ℤ◌, unsigned_abs, arith, mul-pos, Bool, true, false, ◌+◌, add-one, List, [], ◌∷◌, length, get_or, map, drop, All, Ok}
 use Rattle.std.specs.declared.cmp.Ordering.{Ordering}
 use Rattle.std.specs.declared.cmp.Ordering.TheVariants.{Less, Equal, Greater}
 use Rattle.std.specs.Ordering.{int_cmp}
 use Rattle.std.proofs.lemmas.Int.{ints}
 use Rattle.std.proofs.lemmas.List.{at_drop_more, get_or-map, length-map}
-use Rattle.qm_math.specs.Fraction.{Fraction, whole}
+use Rattle.qm_math.specs.Fraction.{Fraction}
 use Rattle.qm_math.proofs.Polynomials.{◌⊗◌}
 use Rattle.qm_math.proofs.Ring.{x0, x1, x2, x3, ring}
-use Rattle.qm_math.proofs.WholeTests.{false_of_le, lt_of_test, test_of_lt}
 use Rattle.qm_frac.specs.Lowest.{lowest}
 use Rattle.qm_tableau.specs.Tables.{entry_of}
 use Rattle.qm_tableau.specs.Leaving.{Placed}
 use Rattle.qm_tableau.specs.Rule.{is_greater}
-use Rattle.qm_tableau.specs.Wholes.{IsSmall, IsSmallRow, at_place, fractions_of}
+use Rattle.qm_tableau.specs.Wholes.{IsSmallRow, at_place, fractions_of}
 use Rattle.qm_tableau.proofs.NoLeaving.{factor_is}
 use Rattle.qm_tableau.proofs.WholeEntries.{entry_in_row}
 use Rattle.qm_frac.specs.Checked.{divided}
 use Rattle.qm_frac.specs.Order.{fraction_cmp}
 use Rattle.qm_frac.specs.Signs.{pos_abs}
 use Rattle.qm_frac.proofs.LowestOrder.{cmp_lowest, scaled_cmp}
-use Rattle.qm_frac.proofs.SameLowest.{lowest_den_pos}
-use Rattle.qm_frac.proofs.Values.{lowest-value}
 
 -- the row is a and b over d, the leaving row p and q over e
 pub quotients_compare : (a b : ℤ) (p q d e : ℕ) → 0 < p → 0 < q → 0 < d → 0 < e

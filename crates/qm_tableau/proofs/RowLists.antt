@@ -1,5 +1,5 @@
 -- Rows put behind rows, one row put in the place of another, and rows of whole entries.
-use Rattle.std.proofs.Common.{◌≡◌, ◌∙◌, refl, sym, ap, ap₂, ℕ, zero, suc, ◌+◌, ◌-◌, ◌*◌, ◌/◌, ◌<◌, ◌≤◌, ◌^◌, ℤ, pos, negsuc, neg_ℤ, unsigned_abs, add-one, List, [], ◌∷◌, ◌++◌, length, get_or, set, take, drop, map, arith, All}
+use Rattle.std.proofs.Common.{◌≡◌, ◌∙◌, refl, sym, ap, ap₂, ℕ, zero, suc, ◌+◌, ◌-◌, ◌*◌, ◌/◌, ◌<◌, ◌≤◌, ℤ, pos, negsuc, neg_ℤ, add-one, List, [], ◌∷◌, ◌++◌, length, get_or, set, take, drop, map, arith, All}
 use borrow.Rule.Slice.PartMut.{put_mid}
 use native.Mathlib.Nat.{zero-mul}
 use Rattle.std.specs.List.{drop-map, take-map}
@@ -9,7 +9,6 @@ use Rattle.std.proofs.lemmas.List.{append_assoc, length-append, map-append, take
 use Rattle.std.proofs.lemmas.List.Elements.{All-cons, All-drop, All-nil, All-take}
 use lib.Seq.{length-take-le}
 use Rattle.qm_math.specs.Fraction.{Fraction, whole}
-use Rattle.qm_frac.specs.Gcd.{gcd_of}
 use Rattle.qm_frac.specs.Lowest.{lowest, lowest_parts}
 use Rattle.qm_frac.proofs.Divisors.{gcd_of-one}
 use Rattle.qm_tableau.specs.Tables.{rows_of}

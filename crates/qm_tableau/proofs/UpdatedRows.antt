@@ -1,8 +1,8 @@
 -- A row without a common divisor of its numbers has the fractions of the updated row.
-use Rattle.std.proofs.Common.{◌≡◌, ◌∙◌, refl, sym, ap, ap₂, ℕ, zero, suc, ◌+◌, ◌-◌, ◌*◌, ◌<◌, ◌≤◌, ℤ, pos, negsuc, ◌-ℤ◌, ◌*ℤ◌, ◌<ℤ◌, unsigned_abs, List, [], ◌∷◌, length, get_or, map, All, arith, mul-pos, Bool, true, false}
+use Rattle.std.proofs.Common.{◌≡◌, ◌∙◌, refl, sym, ap, ap₂, ℕ, zero, suc, ◌+◌, ◌*◌, ◌<◌, ℤ, pos, negsuc, ◌-ℤ◌, ◌*ℤ◌, ◌<ℤ◌, unsigned_abs, List, [], ◌∷◌, length, get_or, map, All, arith, mul-pos, Bool, true, false}
 use Rattle.std.specs.Prelude.{◌==◌, if◌then◌else◌}
 use Rattle.std.proofs.lemmas.Bool.Decides.{nat_tests}
-use Rattle.std.proofs.lemmas.Int.{ints, unsigned_abs-mul}
+use Rattle.std.proofs.lemmas.Int.{ints}
 use Rattle.std.proofs.lemmas.List.{get_or_default}
 use Rattle.qm_math.specs.Fraction.{Fraction}
 use Rattle.qm_math.proofs.Polynomials.{◌⊕◌, ◌⊗◌, minus, number}
@@ -10,7 +10,7 @@ use Rattle.qm_math.proofs.Ring.{x0, x1, x2, x3, x4, x5, x6, ring, ring_from}
 use Rattle.qm_frac.specs.Lowest.{lowest}
 use Rattle.qm_frac.proofs.SameLowest.{lowest_scaled}
 use Rattle.qm_tableau.specs.declared.updating.Step.{Step}
-use Rattle.qm_tableau.specs.Wholes.{IsSmall, IsSmallRow, at_place, fractions_of, over, updated_numbers, updated_row}
+use Rattle.qm_tableau.specs.Wholes.{IsSmallRow, at_place, fractions_of, over, updated_numbers, updated_row}
 use Rattle.qm_tableau.specs.UpdateSteps.{HasParts, IsStep, IsUpdated, number_at}
 
 -- ---- a common factor of a row

@@ -1,5 +1,5 @@
 -- Entries of rows of whole numbers as fractions.
-use Rattle.std.proofs.Common.{◌≡◌, ◌∙◌, refl, sym, ap, ℕ, zero, suc, ◌*◌, ◌/◌, ◌<◌, ◌≤◌, ◌^◌, ℤ, pos, negsuc, ◌<ℤ◌, ◌≤ℤ◌, neg_ℤ, unsigned_abs, arith, mul-pos, Bool, true, false, List, [], ◌∷◌, length, get_or, map}
+use Rattle.std.proofs.Common.{◌≡◌, ◌∙◌, refl, sym, ap, ℕ, zero, suc, ◌/◌, ◌<◌, ◌≤◌, ◌^◌, ℤ, pos, negsuc, ◌<ℤ◌, neg_ℤ, unsigned_abs, arith, List, [], ◌∷◌, length, get_or, map}
 use Rattle.std.specs.Prelude.{int_lt}
 use native.Mathlib.Nat.{zero-div}
 use Rattle.std.proofs.lemmas.Int.{ints}

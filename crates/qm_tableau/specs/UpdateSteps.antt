@@ -1,5 +1,5 @@
 -- What a pivot does to a row of whole numbers, without the divisors that its numbers have in common.
-use Rattle.std.specs.Prelude.{◌≡◌, ℕ, ◌*◌, ◌<◌, ℤ, pos, ◌-ℤ◌, ◌*ℤ◌, ◌<ℤ◌, List, length, if◌then◌else◌, ◌==◌}
+use Rattle.std.specs.Prelude.{◌≡◌, ℕ, ◌<◌, ℤ, pos, ◌-ℤ◌, ◌*ℤ◌, ◌<ℤ◌, List, length, if◌then◌else◌, ◌==◌}
 use Rattle.qm_tableau.specs.declared.updating.Step.{Step}
 use Rattle.qm_tableau.specs.Wholes.{IsSmall, IsSmallRow, at_place, fractions_of, updated_row}
 

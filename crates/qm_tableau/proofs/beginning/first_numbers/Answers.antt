@@ -1,4 +1,4 @@
-use Rattle.std.proofs.Common.{◌≡◌, ◌∙◌, ◌<◌, ◌^◌, ◌+◌, ap, arith, suc, length, add-one}
+use Rattle.std.proofs.Common.{◌≡◌, ◌∙◌, ◌+◌, ap, arith, length, add-one}
 use Rattle.qm_tableau.specs.Tables.{Numbers}
 use Rattle.qm_tableau.specs.Quantities.{quantities}
 use Rattle.qm_tableau.proofs.Cuts.{length_rows_of}

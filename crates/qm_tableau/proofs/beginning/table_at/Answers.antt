@@ -1,6 +1,6 @@
 use Rattle.std.proofs.Common.{◌≡◌, ◌∙◌, length, ℕ, List, ap, arith, refl, suc, sym}
 use Rattle.qm_tableau.specs.Tables.{Numbers}
-use Rattle.qm_tableau.proofs.Rooms.{few_ranges, length_columns, room_for_rows, table_is}
+use Rattle.qm_tableau.proofs.Rooms.{few_ranges, length_columns, room_for_rows}
 use Rattle.qm_tableau.proofs.beginning.table_at.Goals as goal
 
 pub new-requires-clause-columns : goal.new-requires-clause-columns

@@ -1,6 +1,5 @@
-use Rattle.std.proofs.Common.{◌≡◌, ◌∙◌, sym, ap, ap₂, [], get_or, arith, List, ℤ, ℕ, ◌<◌, length, suc, pos, ◌*ℤ◌}
+use Rattle.std.proofs.Common.{◌∙◌, sym, ap, arith, List, ℤ, ◌<◌, length, suc, ◌*ℤ◌}
 use Rattle.std.specs.Ordering.{int_cmp}
-use Rattle.std.specs.declared.cmp.Ordering.{Ordering}
 use Rattle.std.specs.declared.cmp.Ordering.TheVariants.{Less, Equal, Greater}
 use Rattle.qm_tableau.specs.Wholes.{at_place}
 use Rattle.qm_tableau.proofs.QuotientOrder.{greater_step}

@@ -1,4 +1,4 @@
-use Rattle.std.proofs.Common.{◌≡◌, ◌∙◌, ◌<◌, ◌+◌, suc, add-one, ap₂, ℕ, ℤ, pos, ◌*ℤ◌, arith, length}
+use Rattle.std.proofs.Common.{◌≡◌, ◌∙◌, ◌<◌, ◌+◌, add-one, ap₂, ℕ, pos, ◌*ℤ◌, arith, length}
 use Rattle.std.specs.Ordering.{int_cmp}
 use Rattle.qm_tableau.specs.Wholes.{at_place}
 use Rattle.qm_tableau.proofs.SmallNumbers.{passed_64}

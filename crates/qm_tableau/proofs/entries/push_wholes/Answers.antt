@@ -1,4 +1,4 @@
-use Rattle.std.proofs.Common.{◌≡◌, ◌∙◌, ◌++◌, ap, ℤ, List, map}
+use Rattle.std.proofs.Common.{◌∙◌, ◌++◌, ap, ℤ, List, map}
 use Rattle.std.proofs.lemmas.List.{take_all}
 use Rattle.qm_math.specs.Fraction.{whole}
 use Rattle.qm_tableau.proofs.entries.push_wholes.Goals as goal

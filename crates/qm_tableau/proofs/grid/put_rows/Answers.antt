@@ -1,4 +1,4 @@
-use Rattle.std.proofs.Common.{◌≡◌, ◌∙◌, ◌<◌, ◌≤◌, ◌+◌, ◌*◌, suc, sym, ap, ap₂, ℕ, ℤ, List, [], ◌∷◌, ◌++◌, arith, length, map, get_or, take}
+use Rattle.std.proofs.Common.{◌≡◌, ◌∙◌, ◌<◌, ◌≤◌, ◌+◌, ◌*◌, sym, ap, ap₂, ℤ, List, [], ◌∷◌, ◌++◌, arith, length, map, get_or, take}
 use Rattle.std.proofs.lemmas.List.{map-append, take_all, take_more}
 use Rattle.qm_math.specs.Fraction.{Fraction}
 use Rattle.qm_tableau.specs.Wholes.{fractions_of}

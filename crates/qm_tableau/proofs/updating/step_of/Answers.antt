@@ -1,7 +1,5 @@
-use Rattle.std.proofs.Common.{◌≡◌, ◌∙◌, ◌<◌, refl, ap₂, ap, sym, subst, ℕ, pos, ℤ, ◌*ℤ◌, ◌<ℤ◌, unsigned_abs, arith, to_z, of_z, length}
+use Rattle.std.proofs.Common.{◌≡◌, ◌∙◌, ◌<◌, refl, pos, ◌*ℤ◌, arith, to_z, of_z, length}
 use Rattle.std.specs.Int.{w128}
-use Prim.Native.Nat.{◌∣◌}
-use Rattle.qm_frac.specs.Gcd.{gcd_of}
 use Rattle.qm_tableau.specs.Wholes.{at_place}
 use Rattle.qm_tableau.proofs.SmallNumbers.{passed_64, widened}
 use Rattle.qm_tableau.proofs.Parts.{common_divides, common_some}

@@ -1,4 +1,4 @@
-use Rattle.std.proofs.Common.{◌≡◌, ◌∙◌, ◌<◌, ◌+◌, ap, sym, add-one, arith, ℕ, pos, suc, length}
+use Rattle.std.proofs.Common.{◌≡◌, ◌∙◌, ◌<◌, ◌+◌, ap, sym, add-one, arith, pos, suc, length}
 use Rattle.qm_tableau.specs.Wholes.{at_place}
 use Rattle.qm_tableau.proofs.SmallNumbers.{zero_is}
 use Rattle.qm_tableau.proofs.UpdatedRows.{copied, written}

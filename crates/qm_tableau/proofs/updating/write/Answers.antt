@@ -1,4 +1,4 @@
-use Rattle.std.proofs.Common.{◌∙◌, ◌<◌, length, ℕ, arith}
+use Rattle.std.proofs.Common.{◌∙◌, ◌<◌, length, arith}
 use Rattle.std.proofs.lemmas.List.{length-set}
 use Rattle.qm_tableau.specs.UpdateSteps.{number_at}
 use Rattle.qm_tableau.proofs.SmallNumbers.{passed_128, passed_64}

@@ -1,4 +1,4 @@
-use Rattle.std.proofs.Common.{◌∙◌, ◌+◌, ◌≡◌, suc, sym, ap, get_or, pos, arith, ℕ, unsigned_abs, ◌<◌, length}
+use Rattle.std.proofs.Common.{◌∙◌, ◌+◌, ◌≡◌, suc, sym, ap, pos, arith, ℕ, unsigned_abs, ◌<◌, length}
 use Rattle.qm_frac.specs.Lowest.{lowest}
 use Rattle.qm_tableau.specs.Wholes.{at_place}
 use Rattle.qm_tableau.proofs.SmallNumbers.{widened}

@@ -1,4 +1,4 @@
-use Rattle.std.proofs.Common.{◌≡◌, ◌∙◌, ap, ap₂, ℕ, suc, ◌+◌, ◌∷◌, ◌≤◌, List, ℤ, pos, length, map, take, arith, add-one}
+use Rattle.std.proofs.Common.{◌≡◌, ◌∙◌, ap, ap₂, ℕ, ◌∷◌, ◌≤◌, List, ℤ, pos, length, map, arith, add-one}
 use Rattle.std.proofs.lemmas.List.{take_all}
 use Rattle.qm_tableau.specs.StoredSteps.{WholeRows}
 use Rattle.qm_tableau.specs.Tables.{rows_of}

@@ -1,4 +1,4 @@
-use Rattle.std.proofs.Common.{◌≡◌, ◌∙◌, ◌*◌, ◌+◌, ◌-◌, ◌≤◌, ◌++◌, sym, ap, subst, arith, ℕ, ℤ, List, [], length, get_or, take, drop}
+use Rattle.std.proofs.Common.{◌≡◌, ◌∙◌, ◌*◌, ◌+◌, ◌-◌, sym, subst, arith, ℤ, List, [], length, get_or, drop}
 use Rattle.std.proofs.lemmas.List.{length-drop, length-take-le}
 use borrow.Rule.Slice.PartMut.{put_mid}
 use Rattle.qm_tableau.specs.Tables.{rows_of}

@@ -1,11 +1,10 @@
-use Rattle.std.proofs.Common.{◌≡◌, ◌∙◌, ◌<◌, ◌≤◌, ◌≢◌, ◌+◌, ◌<ℤ◌, sym, ap, subst, refl, add-one, arith, ℕ, ℤ, pos, suc, List, [], length, map, get_or, set, Ok}
+use Rattle.std.proofs.Common.{◌≡◌, ◌∙◌, ◌<◌, ◌≢◌, ◌+◌, ◌<ℤ◌, sym, ap, subst, add-one, arith, ℕ, ℤ, pos, suc, List, [], length, map, get_or, Ok}
 use borrow.Author.Count.{below_more}
-use Rattle.std.proofs.lemmas.Int.{ints}
 use Rattle.std.proofs.lemmas.List.{get_or-set_other, length-set}
 use Rattle.qm_math.specs.Fraction.{Fraction}
 use Rattle.qm_tableau.specs.Leaving.{Placed}
 use Rattle.qm_tableau.specs.Pivoting.{new_rows}
-use Rattle.qm_tableau.specs.Wholes.{IsSmallRow, at_place, fractions_of, updated_row}
+use Rattle.qm_tableau.specs.Wholes.{IsSmallRow, at_place, fractions_of}
 use Rattle.qm_tableau.specs.UpdateSteps.{IsUpdated}
 use Rattle.qm_tableau.proofs.SmallNumbers.{above_is, passed_64}
 use Rattle.qm_tableau.proofs.NoLeaving.{rows_are}

@@ -1,4 +1,4 @@
-use Rattle.std.proofs.Common.{◌≡◌, ◌∙◌, ◌+◌, ◌∷◌, ◌++◌, add-one, ap, ap₂, arith, ℕ, suc, sym, List, [], length}
+use Rattle.std.proofs.Common.{◌≡◌, ◌∙◌, ◌∷◌, ◌++◌, add-one, ap, ap₂, arith, ℕ, suc, sym, List, [], length}
 use Rattle.qm_math.specs.Fraction.{Fraction}
 use Rattle.qm_tableau.specs.StoredSteps.{FractionRows}
 use Rattle.qm_tableau.specs.Tables.{rows_of}

@@ -1,8 +1,7 @@
-use Rattle.std.proofs.Common.{◌≡◌, ◌∙◌, ◌<◌, ◌+◌, suc, subst, sym, ap, add-one, arith, ℕ, ℤ, pos, List, [], length, map, get_or, All}
-use Rattle.std.specs.Prelude.{int_lt}
+use Rattle.std.proofs.Common.{◌≡◌, suc, subst, ℕ, List, length, map, All}
 use Rattle.qm_math.specs.Fraction.{Fraction}
-use Rattle.qm_tableau.specs.Tables.{Numbers, entry_at}
-use Rattle.qm_tableau.specs.Wholes.{at_place, fractions_of}
+use Rattle.qm_tableau.specs.Tables.{Numbers}
+use Rattle.qm_tableau.specs.Wholes.{fractions_of}
 use Rattle.qm_tableau.proofs.KeptRows.{are_whole, fraction_widths, kept_whole}
 use Rattle.qm_tableau.proofs.rows.Rows.height.Goals as goal
 

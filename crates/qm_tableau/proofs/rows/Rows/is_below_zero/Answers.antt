@@ -1,8 +1,8 @@
-use Rattle.std.proofs.Common.{◌≡◌, ◌∙◌, ◌<◌, ◌+◌, suc, subst, sym, ap, add-one, arith, ℕ, ℤ, pos, List, [], length, map, get_or, All}
+use Rattle.std.proofs.Common.{◌∙◌, ◌<◌, ◌+◌, sym, ap, add-one, arith, ℕ, pos, List, [], length, get_or}
 use Rattle.std.specs.Prelude.{int_lt}
 use Rattle.qm_math.specs.Fraction.{Fraction}
-use Rattle.qm_tableau.specs.Tables.{Numbers, entry_at}
-use Rattle.qm_tableau.specs.Wholes.{at_place, fractions_of}
+use Rattle.qm_tableau.specs.Tables.{entry_at}
+use Rattle.qm_tableau.specs.Wholes.{at_place}
 use Rattle.qm_tableau.proofs.SmallNumbers.{passed_64}
 use Rattle.qm_tableau.proofs.KeptRows.{below_entry, rows_inside}
 use Rattle.qm_tableau.proofs.rows.Rows.is_below_zero.Goals as goal

@@ -1,8 +1,6 @@
-use Rattle.std.proofs.Common.{◌≡◌, ◌∙◌, ◌<◌, ◌+◌, suc, subst, sym, ap, add-one, arith, ℕ, ℤ, pos, List, [], length, map, get_or, All}
-use Rattle.std.specs.Prelude.{int_lt}
+use Rattle.std.proofs.Common.{subst, pos, List}
 use Rattle.qm_math.specs.Fraction.{Fraction}
-use Rattle.qm_tableau.specs.Tables.{Numbers, entry_at}
-use Rattle.qm_tableau.specs.Wholes.{at_place, fractions_of}
+use Rattle.qm_tableau.specs.Tables.{entry_at}
 use Rattle.std.proofs.Common.{◌<ℤ◌}
 use Rattle.qm_tableau.proofs.KeptRows.{entry_positive, rows_inside}
 use Rattle.qm_tableau.proofs.rows.Rows.is_greater.Goals as goal
