@@ -19,10 +19,23 @@ impl Draws {
     }
 }
 
+/// Over how many of the variables a row is: about half of them, or four.
+#[derive(Clone, Copy)]
+pub enum Density {
+    Dense,
+    Sparse,
+}
+
 /// The text of a problem of so many variables that the seed decides. The first so many, three at least, are binaries, of
 /// which every third is universal, and at most half of these are 1; the others are continuous, from 0 to 1. There are as many
-/// rows as variables, each over about half of these.
-pub fn text_of(alloc: Global, size: u32, wholes: u32, seed: u32) -> Result<Vec<u8>, AllocError> {
+/// rows as variables.
+pub fn text_of(
+    alloc: Global,
+    density: Density,
+    size: u32,
+    wholes: u32,
+    seed: u32,
+) -> Result<Vec<u8>, AllocError> {
     let mut draws = Draws {
         state: u64::from(seed),
     };
@@ -31,7 +44,10 @@ pub fn text_of(alloc: Global, size: u32, wholes: u32, seed: u32) -> Result<Vec<u
     push_objective(&mut text, &mut draws, size)?;
     text.extend_from_slice(b"\nSUBJECT TO\n")?;
     for _ in 0..size {
-        push_row(&mut text, &mut draws, size)?;
+        match density {
+            Density::Dense => push_row(&mut text, &mut draws, size)?,
+            Density::Sparse => push_short_row(&mut text, &mut draws, size)?,
+        }
     }
     text.extend_from_slice(b"UNCERTAINTY SUBJECT TO\n")?;
     push_budget(&mut text, wholes / 3)?;
@@ -110,6 +126,23 @@ fn push_row(text: &mut Vec<u8>, draws: &mut Draws, size: u32) -> Result<(), Allo
         return Ok(());
     }
     push_right(text, universals.wrapping_add(others / 2))
+}
+
+// A variable of each quarter is in the row.
+fn push_short_row(text: &mut Vec<u8>, draws: &mut Draws, size: u32) -> Result<(), AllocError> {
+    let quarter = (size / 4).max(1);
+    let mut right: u32 = 0;
+    for part in 0..4 {
+        let variable = quarter
+            .wrapping_mul(part)
+            .wrapping_add((draws.next() % u64::from(quarter)) as u32 + 1);
+        let coef = (draws.next() % 5) as u32 + 1;
+        if variable <= size {
+            push_term(text, coef, variable)?;
+            right = right.wrapping_add(coef);
+        }
+    }
+    push_right(text, right / 2)
 }
 
 // At most half of so many universal variables are 1.

@@ -3,12 +3,13 @@
 //! thousand bytes of text are to be cut into tokens; or `parse` and how many thousand terms a text has that is to be
 //! read; or `propagate` and how many times a game is to be propagated; or `legal` and how many times legality is to be
 //! asked of a game with budgets of the universal player; or `entries` and how many thousand entries are to be put into a
-//! journal; or `pivots`, the shape of a made tableau and how
-//! many pairs of pivots are to be done on it, the second of each taking the first back; or `runs`, the number of
-//! variables and the seed of a made problem, and how many times its relaxation is to be solved; or `leaves`, the number of
-//! continuous variables and the seed of a made problem with one leaf, and how many times it is to be solved, or
-//! `leaf-runs` for the run of this leaf's relaxation alone; or `boxes`, and how the boxes along a random play of such a
-//! problem are gone through (`Play`). It is timed from outside.
+//! journal; or `pivots`, the shape of a made problem, as `12-dense` or `30-sparse`, and how many pairs of pivots are to be
+//! tried on its first tableau, the second of each taking the first back; or `runs` or `sparse-runs`, the number of variables
+//! and the seed of a made problem, and how many times its relaxation is to be solved; the last number that these print is how
+//! many pivots left whole numbers over one denominator a row; or `leaves`, the number of continuous variables and the seed of a
+//! made problem with one leaf, and how many times it is to be solved, or `leaf-runs` for the run of this leaf's relaxation
+//! alone; or `boxes`, and how the boxes along a random play of such a problem are gone through (`Play`). It is timed from
+//! outside.
 #![tactic(auto)]
 
 mod drawn;
@@ -49,15 +50,6 @@ fn main(rt: HostRuntime) -> io::Result<()> {
             },
             None => println!(rt; "?"),
         },
-        [work, size, seed, times] if work.as_str() == "runs" => {
-            match Runs::read(size.as_str(), seed.as_str(), times.as_str()) {
-                Some(runs) => match runs.last(alloc) {
-                    Ok(ended) => println!(rt; "{} {}", ended.ending.word(), ended.pivots),
-                    Err(_) => println!(rt; "memory"),
-                },
-                None => println!(rt; "?"),
-            }
-        }
         [work, size, seed, times] if work.as_str() == "leaves" => {
             match Mixed::read(size.as_str(), seed.as_str(), times.as_str()) {
                 Some(mixed) => match mixed.found(alloc) {
@@ -76,13 +68,27 @@ fn main(rt: HostRuntime) -> io::Result<()> {
                 None => println!(rt; "?"),
             }
         }
+        [work, size, seed, times] => {
+            match Runs::read(work.as_str(), size.as_str(), seed.as_str(), times.as_str()) {
+                Some(runs) => match runs.last(alloc) {
+                    Ok(ended) => println!(rt;
+                        "{} {} {}",
+                        ended.ending.word(),
+                        ended.pivots,
+                        ended.whole
+                    ),
+                    Err(_) => println!(rt; "memory"),
+                },
+                None => println!(rt; "?"),
+            }
+        }
         [work, shape, pairs] if work.as_str() == "pivots" => {
             match (
                 Shape::read(shape.as_str()),
                 pairs.as_str().parse::<u32>().ok(),
             ) {
                 (Some(shape), Some(pairs)) => match pivots(alloc, shape, pairs) {
-                    Ok(done) => println!(rt; "{done}"),
+                    Ok(done) => println!(rt; "{} {}", done.pivots, done.whole),
                     Err(_) => println!(rt; "memory"),
                 },
                 _ => println!(rt; "?"),

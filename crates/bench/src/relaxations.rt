@@ -2,7 +2,7 @@ ghost use Rattle.std.specs.Prelude.{List};
 ghost use Rattle.qm_model.specs.declared.variable.Var.{Var};
 ghost use Rattle.qm_model.specs.Boxes.{IsBox};
 
-use crate::drawn::text_of;
+use crate::drawn::{Density, text_of};
 use crate::runs::game_of;
 use qm_frac::Frac;
 use qm_game::{Bx, Game, Goal, Range, has_empty, try_narrow, whole_box};
@@ -70,7 +70,8 @@ impl Play {
 
     /// Walks along the play so many times; what there was to walk along, nothing where there is no such problem.
     pub fn walked(self, alloc: Global) -> Result<Walked, Memory> {
-        let text = text_of(alloc, self.size, self.wholes, self.seed).map_err(|_| Memory)?;
+        let text = text_of(alloc, Density::Dense, self.size, self.wholes, self.seed)
+            .map_err(|_| Memory)?;
         match game_of(alloc, &text) {
             Some(game) => self.walked_on(alloc, &game),
             None => Ok(Walked {

@@ -2,8 +2,7 @@ ghost use Rattle.std.specs.Prelude.{◌<◌, ◌^◌, All, length};
 ghost use Rattle.qm_model.specs.Boxes.{IsBox};
 ghost use Rattle.qm_model.specs.Sound.{IsRowOver};
 
-use crate::words::fraction_words;
-use probe_words::leaves_text;
+use probe_words::{fraction_text, leaves_text};
 use qm_game::{Bx, Game, Row};
 use qm_tableau::{Choice, LeavesAt, Tableau, first};
 use std::alloc::{AllocError, Global};
@@ -82,8 +81,19 @@ fn rows_text(alloc: Global, tableau: &Tableau) -> Result<String, AllocError> {
         if row > 0 {
             out.push_str(" /")?;
         }
-        let entries = fraction_words(alloc, tableau.row(row as u32))?;
+        let entries = row_words(alloc, tableau, row as u32)?;
         out.push_str(entries.as_str())?;
+    }
+    Ok(out)
+}
+
+fn row_words(alloc: Global, tableau: &Tableau, row: u32) -> Result<String, AllocError>
+    requires { row < length tableau.now.rows }
+{
+    let mut out = String::new(alloc);
+    for col in 0..tableau.width() {
+        out.push(' ')?;
+        out.push_str(fraction_text(alloc, tableau.entry(row, col as u32))?.as_str())?;
     }
     Ok(out)
 }

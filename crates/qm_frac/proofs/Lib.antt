@@ -11,3 +11,6 @@ pub mod AnswerLaws
 pub mod CheckedLaws
 pub mod Halving
 pub mod WholeSteps
+pub mod SameLowest
+pub mod SumsOver
+pub mod LowestOrder

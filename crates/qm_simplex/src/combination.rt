@@ -25,14 +25,15 @@ fn slack_name(rows: usize, urows: usize, n: usize) -> RowId
     }
 }
 
-/// The number in the column of the quantity of row i, 0 where there is none.
-fn number_for(i: u32, columns: &[u32], numbers: &[Frac]) -> Frac
-    requires { length numbers.now ≡ length columns.now }
-    ensures { result ≡ number_for i columns.now numbers.now }
+/// The number of a row in the column of the quantity of row i, 0 where there is none.
+fn number_for(tableau: &Tableau, row: u32, i: u32) -> Frac
+    requires { row < length tableau.now.rows }
+    ensures { result ≡ number_for i tableau.now.columns (drop 1 (row_at tableau.now.rows row)) }
 {
-    for (k, column) in columns.iter().enumerate() {
+    let _width = tableau.width();
+    for (k, column) in tableau.rows_of_columns().iter().enumerate() {
         if *column == i {
-            return numbers[k];
+            return tableau.entry(row, k as u32 + 1);
         }
     }
     Frac::whole(0)
@@ -46,7 +47,7 @@ fn multiplier(tableau: &Tableau, row: u32, i: u32) -> Frac
     if i == row {
         return Frac::whole(1);
     }
-    number_for(i, tableau.rows_of_columns(), &tableau.row(row)[1..]).neg()
+    number_for(tableau, row, i).neg()
 }
 
 /// Puts an entry last, where its multiplier isn't 0.

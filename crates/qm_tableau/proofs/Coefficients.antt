@@ -1,5 +1,5 @@
 -- What ordered terms give a variable.
-use Rattle.std.proofs.Common.{◌≡◌, sym, ℕ, suc, List, ◌∷◌, arith, ℤ, pos, ◌+ℤ◌}
+use Rattle.std.proofs.Common.{◌≡◌, sym, ℕ, suc, List, ◌∷◌, arith, pos, ◌+ℤ◌}
 use Rattle.std.proofs.lemmas.Int.{ints}
 use Rattle.std.proofs.lemmas.Bool.Decides.{nat_tests}
 use Rattle.qm_model.specs.declared.row.Term.{Term}

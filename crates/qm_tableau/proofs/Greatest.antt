@@ -1,5 +1,5 @@
 -- What the rule's choice says of the leaving row and of the entering column.
-use Rattle.std.proofs.Common.{◌≡◌, ◌∙◌, refl, sym, ap, subst, ℕ, suc, ◌+◌, ◌<◌, ◌≤◌, ◌⊎◌, inl, inr, ⊎_elim, Bool, true, false, List, [], ◌∷◌, length, drop, arith, All, Option, Some, None, Ok, ℤ, pos, ◌*ℤ◌, ◌<ℤ◌, unsigned_abs, Ordering, Less, Equal, Greater, if◌then◌else◌, int_lt}
+use Rattle.std.proofs.Common.{◌≡◌, ◌∙◌, refl, sym, ap, subst, ℕ, suc, ◌+◌, ◌<◌, ◌≤◌, ◌⊎◌, inl, inr, ⊎_elim, Bool, true, false, List, [], ◌∷◌, length, drop, arith, All, Option, Some, None, Ok, pos, ◌*ℤ◌, ◌<ℤ◌, unsigned_abs, Ordering, Less, Equal, Greater, if◌then◌else◌, int_lt}
 use Rattle.std.specs.List.{AllZip}
 use Rattle.std.specs.Ordering.{MatchOrdering}
 use Rattle.std.specs.Cmp.{int_ranks}
@@ -237,7 +237,7 @@ named : (r c s : ℕ) (best : Option ℕ) → choice_of s best ≡ choice.Pivot 
 named r c s None h = absurd (cc)
 named r c s (Some b) h = (cc, cc)
 
-row_is : (rows : List (List Fraction)) (r : ℕ) → leaving_row 1 (drop 1 rows) ≡ Some r → (r < length rows) × ((entry_of (row_at rows r) 0).num <ℤ pos 0)
+pub row_is : (rows : List (List Fraction)) (r : ℕ) → leaving_row 1 (drop 1 rows) ≡ Some r → (r < length rows) × ((entry_of (row_at rows r) 0).num <ℤ pos 0)
 row_is [] r h = absurd (cc)
 row_is (row ∷ rows) r h =
     let at = leaving_is 1 rows r h in

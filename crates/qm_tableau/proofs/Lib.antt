@@ -1,4 +1,12 @@
+pub mod SmallNumbers
+pub mod Parts
 pub mod Cuts
+pub mod RowLists
+pub mod NoLeaving
+pub mod WholeEntries
+pub mod QuotientOrder
+pub mod UpdatedRows
+pub mod KeptRows
 pub mod Zeros
 pub mod Steps
 pub mod Candidates
@@ -14,5 +22,6 @@ pub mod Constants
 pub mod Moving
 pub mod FirstGood
 pub mod Greatest
+pub mod AlwaysChosen
 pub mod PivotColumns
 pub mod PivotGood

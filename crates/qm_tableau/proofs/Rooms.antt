@@ -16,7 +16,7 @@ use Rattle.qm_model.specs.Sound.{IsRowOver, IsSound}
 use Rattle.qm_model.proofs.BoxLaws.{IsBox-length}
 use Rattle.qm_model.proofs.Sizes.{ReachesNoFarther, one_le_reach, reach_in_box_le, terms_size_le}
 use Rattle.qm_model.proofs.VariableSizes.{box_reach_some, coefficient_size}
-use Rattle.qm_tableau.specs.Tables.{Table, rows_of}
+use Rattle.qm_tableau.specs.Tables.{Numbers, Table, rows_of}
 use Rattle.qm_tableau.specs.Quantities.{Quantity, bound_quantities, quantities, slack_quantity}
 use Rattle.qm_tableau.specs.FirstTable.{HasRoom, columns_from, corner, first_row, numbers_from, raises, table_at}
 
@@ -135,26 +135,29 @@ width_of : (highs : List Bool) (values : List ℤ) (q : Quantity) → length (fi
 width_of highs values q = ap suc (length_numbers _ 0 highs)
 
 -- so many entries
-pub count_entries : (highs : List Bool) (values : List ℤ) (qs : List Quantity) (columns : List ℕ) (height : ℕ) (entries : List Fraction)
-    → entries ≡ flat_map (first_row highs values) qs → columns ≡ columns_from 0 highs → height ≡ length qs
-    → length entries ≡ height * suc (length columns)
-count_entries highs values qs columns height entries is columns_are height_is =
+pub count_entries : (highs : List Bool) (values : List ℤ) (qs : List Quantity) (width height : ℕ) (entries : List Fraction)
+    → entries ≡ flat_map (first_row highs values) qs → width ≡ suc (length highs) → height ≡ length qs → length entries ≡ height * width
+count_entries highs values qs width height entries is width_is height_is =
     ap (λ (xs : List Fraction). length xs) is
     ∙ length-flat_map (first_row highs values) (suc (length highs)) qs (width_of highs values)
-    ∙ ap₂ (λ (m n : ℕ). m * suc n) (sym height_is) (sym (ap (λ (cs : List ℕ). length cs) columns_are ∙ length_columns 0 highs))
+    ∙ ap₂ (λ (m n : ℕ). m * n) (sym height_is) (sym width_is)
 
 -- they are the rows
-pub table_is : (P : Problem) (cuts : List Row) (bx : List Range) (highs : List Bool) (values : List ℤ) (columns : List ℕ) (height : ℕ) (entries : List Fraction) (t : Table)
-    → t ≡ (record { columns = columns; rows = rows_of (suc (length columns)) height entries })
-    → entries ≡ flat_map (first_row highs values) (quantities P cuts bx) → values ≡ corner highs bx → columns ≡ columns_from 0 highs → height ≡ length (quantities P cuts bx)
-    → t ≡ table_at P cuts bx highs
-table_is P cuts bx highs values columns height entries t t_is is values_are columns_are height_is =
-    let qs = quantities P cuts bx in
-    let pair : List ℕ → List (List Fraction) → Table = λ cs rows. record { columns = cs; rows = rows } in
-    let wide : length columns ≡ length highs = ap (λ (cs : List ℕ). length cs) columns_are ∙ length_columns 0 highs in
-    let rows : rows_of (suc (length columns)) height entries ≡ map (first_row highs (corner highs bx)) qs =
-    ap₂ (λ (w n : ℕ). rows_of (suc w) n entries) wide height_is
+pub rows_of_entries : (highs : List Bool) (values : List ℤ) (qs : List Quantity) (width height : ℕ) (entries : List Fraction) (r : Numbers)
+    → r ≡ (record { width = width; rows = rows_of width height entries }) → entries ≡ flat_map (first_row highs values) qs → width ≡ suc (length highs) → height ≡ length qs
+    → r ≡ (record { width = suc (length highs); rows = map (first_row highs values) qs })
+rows_of_entries highs values qs width height entries r r_is is width_is height_is =
+    let pair : ℕ → List (List Fraction) → Numbers = λ w rows. record { width = w; rows = rows } in
+    let rows : rows_of width height entries ≡ map (first_row highs values) qs =
+    ap₂ (λ (w n : ℕ). rows_of w n entries) width_is height_is
     ∙ ap (rows_of (suc (length highs)) (length qs)) is
-    ∙ rows-flat_map (first_row highs values) (suc (length highs)) qs (width_of highs values)
-    ∙ ap (λ (vs : List ℤ). map (first_row highs vs) qs) values_are in
-    t_is ∙ ap₂ pair columns_are rows
+    ∙ rows-flat_map (first_row highs values) (suc (length highs)) qs (width_of highs values) in
+    r_is ∙ ap₂ pair width_is rows
+
+-- and the table's, with the corner's values
+pub table_is : (P : Problem) (cuts : List Row) (bx : List Range) (highs : List Bool) (values : List ℤ) (columns : List ℕ) (r : Numbers) (t : Table)
+    → t ≡ (record { columns = columns; rows = r.rows }) → r ≡ (record { width = suc (length highs); rows = map (first_row highs values) (quantities P cuts bx) })
+    → values ≡ corner highs bx → columns ≡ columns_from 0 highs → t ≡ table_at P cuts bx highs
+table_is P cuts bx highs values columns r t t_is is values_are columns_are =
+    let pair : List ℕ → List (List Fraction) → Table = λ cs rows. record { columns = cs; rows = rows } in
+    t_is ∙ ap₂ pair columns_are (ap (λ (n : Numbers). n.rows) is ∙ ap (λ (vs : List ℤ). map (first_row highs vs) (quantities P cuts bx)) values_are)

@@ -7,3 +7,6 @@ pub mod Pivoting
 pub mod Exact
 pub mod Columns
 pub mod Good
+pub mod Wholes
+pub mod StoredSteps
+pub mod UpdateSteps

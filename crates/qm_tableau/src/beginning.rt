@@ -1,11 +1,13 @@
-ghost use Rattle.std.specs.Prelude.{◌≡◌, ◌<◌, ◌≤◌, ◌^◌, ◌++◌, [], All, IfOk, OnOk, if◌then◌else◌, int_lt, length, pos, unsigned_abs, ◌+◌, ◌*◌, ℕ};
+ghost use Rattle.std.specs.Prelude.{◌≡◌, ◌<◌, ◌≤◌, ◌^◌, ◌++◌, [], All, IfOk, OnOk, if◌then◌else◌, int_lt, length, map, suc, pos, unsigned_abs, ◌+◌, ◌*◌, ℕ};
 ghost use Rattle.qm_model.specs.Boxes.{IsBox};
 ghost use Rattle.qm_model.specs.Linear.{IsOrdered, coefficient};
 ghost use Rattle.qm_model.specs.Sound.{IsRowOver, IsSound};
 ghost use Rattle.qm_tableau.specs.Quantities.{quantities};
-ghost use Rattle.qm_tableau.specs.FirstTable.{columns_from, corner, first_table, raises, table_at};
+ghost use Rattle.qm_tableau.specs.FirstTable.{HasRoom, columns_from, corner, first_row, first_table, raises, table_at};
 
-use crate::first_rows::first_entries;
+use crate::entries::Entries;
+use crate::first_rows::push_entries;
+use crate::rows::Rows;
 use crate::sparse::next_coefficient;
 use crate::tableau::Tableau;
 use qm_game::Bx;
@@ -86,8 +88,39 @@ fn height_of(problem: &Problem, cuts: &[Row], bx: &[Range]) -> usize
     1 + 2 * bx.len() + problem.rows.len() + problem.urows.len() + cuts.len()
 }
 
+/// The rows of all quantities, in columns of these ends.
+#[tactic(auto, using(crate::proofs::Rooms::count_quantities))]
+fn first_numbers(
+    alloc: Global,
+    problem: &Problem,
+    cuts: &[Row],
+    bx: &[Range],
+    highs: &[bool],
+    values: &[i64],
+) -> Result<Rows, Memory>
+    requires few { length highs.now < 2 ^ 29 }
+    requires few_values { length values.now < 2 ^ 29 }
+    requires values { length values.now ≡ length bx.now }
+    requires few_rows { length problem.now.rows < 2 ^ 29 }
+    requires few_urows { length problem.now.urows < 2 ^ 29 }
+    requires few_cuts { length cuts.now < 2 ^ 29 }
+    requires objective { HasRoom values.now problem.now.constant problem.now.terms }
+    requires rows { All (λ row. HasRoom values.now row.right row.terms) problem.now.rows }
+    requires urows { All (λ row. HasRoom values.now row.right row.terms) problem.now.urows }
+    requires cuts { All (λ row. HasRoom values.now row.right row.terms) cuts.now }
+    ensures few { IfOk result (λ r. length r.rows < 2 ^ 32) }
+    ensures rows { IfOk result (λ r. r ≡ record { width = suc (length highs.now); rows = map (first_row highs.now values.now) (quantities problem.now cuts.now bx.now) }) }
+{
+    let width = highs.len() + 1;
+    let height = height_of(problem, cuts, bx);
+    let mut entries = Entries::new(alloc, height * width)?;
+    push_entries(&mut entries, problem, cuts, bx, highs, values)?;
+    let numbers = entries.into_rows(alloc, width, height)?;
+    Ok(numbers)
+}
+
 /// The tableau whose columns are of these ends.
-#[tactic(auto, using(crate::proofs::Rooms::few_ranges, crate::proofs::Rooms::few_values, crate::proofs::Rooms::room_of_objective, crate::proofs::Rooms::room_of_rows, crate::proofs::Rooms::room_of_urows, crate::proofs::Rooms::count_entries, crate::proofs::Rooms::table_is))]
+#[tactic(auto, using(crate::proofs::Rooms::few_ranges, crate::proofs::Rooms::few_values, crate::proofs::Rooms::room_of_objective, crate::proofs::Rooms::room_of_rows, crate::proofs::Rooms::room_of_urows))]
 fn table_at(
     alloc: Global,
     problem: &Problem,
@@ -104,10 +137,8 @@ fn table_at(
 {
     let values = corner(alloc, highs, bx)?;
     let columns = columns(alloc, highs)?;
-    let entries = first_entries(alloc, problem, cuts, bx, highs, values.as_slice())?;
-    let mut spare = List::new(alloc);
-    spare.append(entries.as_slice())?;
-    Ok(Tableau::new(columns, entries, spare, height_of(problem, cuts, bx)))
+    let numbers = first_numbers(alloc, problem, cuts, bx, highs, values.as_slice())?;
+    Ok(Tableau::new(columns, numbers))
 }
 
 /// The tableau with a column for each variable: that of its distance from its high end where it raises the

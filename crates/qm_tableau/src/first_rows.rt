@@ -1,28 +1,28 @@
-ghost use Rattle.std.specs.Prelude.{◌≡◌, ◌<◌, ◌≤◌, ◌^◌, ◌++◌, All, ℕ, IfOk, OnOk, length, map, neg_ℤ, true, false, unsigned_abs};
+ghost use Rattle.std.specs.Prelude.{◌≡◌, ◌<◌, ◌≤◌, ◌^◌, ◌++◌, [], All, ℕ, OnOk, length, map, neg_ℤ, true, false, unsigned_abs};
 ghost use Rattle.std.specs.List.{flat_map};
 ghost use Rattle.qm_model.specs.Linear.{IsOrdered, coefficient};
 ghost use Rattle.qm_math.specs.Fraction.{whole};
 ghost use Rattle.qm_tableau.specs.Quantities.{bound_quantities, high_quantity, low_quantity, quantities, slack_quantity, turned, whole_value};
 ghost use Rattle.qm_tableau.specs.FirstTable.{HasRoom, first_row, numbers_from};
 
+use crate::entries::Entries;
 use crate::sparse::{next_coefficient, turned};
-use qm_frac::{Frac, over_one};
 use qm_game::form_at;
-use qm_io::{List, Memory};
+use qm_io::Memory;
 use qm_model::{Problem, Range, Row, Term};
-use std::alloc::Global;
 
 /// The coefficient, negated for each of the two that is so.
-fn number(high: bool, less: bool, coefficient: i128) -> Frac
+fn number(high: bool, less: bool, coefficient: i128) -> i128
     requires { unsigned_abs coefficient < 2 ^ 127 }
-    ensures { result ≡ whole (turned high (turned less coefficient)) }
+    ensures value { result ≡ turned high (turned less coefficient) }
+    ensures size { unsigned_abs result < 2 ^ 127 }
 {
-    over_one(turned(high, turned(less, coefficient)))
+    turned(high, turned(less, coefficient))
 }
 
 /// Puts the numbers of a row at the end.
 fn push_numbers(
-    entries: &mut List<Frac>,
+    entries: &mut Entries,
     less: bool,
     terms: &[Term],
     highs: &[bool],
@@ -57,7 +57,7 @@ fn value_at(constant: i128, less: bool, terms: &[Term], values: &[i64]) -> i128
 
 /// Puts the row of a quantity at the end.
 pub fn push_row(
-    entries: &mut List<Frac>,
+    entries: &mut Entries,
     constant: i128,
     less: bool,
     terms: &[Term],
@@ -68,7 +68,7 @@ pub fn push_row(
     requires few { length highs.now < 2 ^ 29 }
     ensures { OnOk result (entries.new ≡ entries.old ++ first_row highs.now values.now (record { constant = constant; less = less; terms = terms.now })) }
 {
-    entries.push(over_one(value_at(constant, less, terms, values)))?;
+    entries.push(value_at(constant, less, terms, values))?;
     push_numbers(entries, less, terms, highs)
 }
 
@@ -96,7 +96,7 @@ fn minus_low_of(range: Range) -> i128
 /// Puts the two rows of the distances from the ends of a variable's range at the end.
 #[tactic(auto, using(crate::proofs::Pushed::room_of_end))]
 fn push_distances(
-    entries: &mut List<Frac>,
+    entries: &mut Entries,
     var: u32,
     range: Range,
     highs: &[bool],
@@ -115,7 +115,7 @@ fn push_distances(
 /// Puts the rows of the distances from the ends of each range at the end.
 #[tactic(auto, using(crate::proofs::Pushed::bounds_done))]
 pub fn push_bounds(
-    entries: &mut List<Frac>,
+    entries: &mut Entries,
     bx: &[Range],
     highs: &[bool],
     values: &[i64],
@@ -134,7 +134,7 @@ pub fn push_bounds(
 /// Puts the rows of the slacks at the end.
 #[tactic(auto, using(crate::proofs::Pushed::slack_done))]
 pub fn push_slacks(
-    entries: &mut List<Frac>,
+    entries: &mut Entries,
     rows: &[Row],
     highs: &[bool],
     values: &[i64],
@@ -156,16 +156,17 @@ pub fn push_slacks(
     Ok(())
 }
 
-/// The rows of all quantities, one after the other.
+/// Puts the rows of all quantities, one after the other, where nothing is.
 #[tactic(auto, using(crate::proofs::Pushed::all_rows))]
-pub fn first_entries(
-    alloc: Global,
+pub fn push_entries(
+    entries: &mut Entries,
     problem: &Problem,
     cuts: &[Row],
     bx: &[Range],
     highs: &[bool],
     values: &[i64],
-) -> Result<List<Frac>, Memory>
+) -> Result<(), Memory>
+    requires empty { entries.old ≡ [] }
     requires few { length highs.now < 2 ^ 29 }
     requires few_values { length values.now < 2 ^ 29 }
     requires values { length values.now ≡ length bx.now }
@@ -173,20 +174,18 @@ pub fn first_entries(
     requires rows { All (λ row. HasRoom values.now row.right row.terms) problem.now.rows }
     requires urows { All (λ row. HasRoom values.now row.right row.terms) problem.now.urows }
     requires cuts { All (λ row. HasRoom values.now row.right row.terms) cuts.now }
-    ensures { IfOk result (λ entries. entries ≡ flat_map (first_row highs.now values.now) (quantities problem.now cuts.now bx.now)) }
+    ensures { OnOk result (entries.new ≡ flat_map (first_row highs.now values.now) (quantities problem.now cuts.now bx.now)) }
 {
-    let mut entries = List::new(alloc);
     push_row(
-        &mut entries,
+        entries,
         problem.constant,
         false,
         problem.terms.as_slice(),
         highs,
         values,
     )?;
-    push_bounds(&mut entries, bx, highs, values)?;
-    push_slacks(&mut entries, problem.rows.as_slice(), highs, values)?;
-    push_slacks(&mut entries, problem.urows.as_slice(), highs, values)?;
-    push_slacks(&mut entries, cuts, highs, values)?;
-    Ok(entries)
+    push_bounds(entries, bx, highs, values)?;
+    push_slacks(entries, problem.rows.as_slice(), highs, values)?;
+    push_slacks(entries, problem.urows.as_slice(), highs, values)?;
+    push_slacks(entries, cuts, highs, values)
 }

@@ -1,4 +1,4 @@
-ghost use Rattle.std.specs.Prelude.{◌≡◌, ◌<◌, ◌≤◌, ◌-◌, ℕ, suc, Ok, List, All, Contains, length, pos, slice_set, unsigned_abs};
+ghost use Rattle.std.specs.Prelude.{◌≡◌, ◌<◌, ◌≤◌, ◌-◌, ◌<ℤ◌, ℕ, ℤ, suc, Ok, List, [], All, Contains, IsOk, length, map, pos, slice_index_or, slice_set, unsigned_abs};
 ghost use Rattle.std.specs.List.{AllZip};
 ghost use Rattle.qm_math.specs.Fraction.{Fraction, HasPositiveDen, IsBelow, IsSame, whole};
 ghost use Rattle.qm_math.specs.Lexicographic.{IsLexBelow, IsLexNegative};
@@ -13,6 +13,7 @@ ghost use Rattle.qm_model.specs.declared.game.Problem.{Problem};
 ghost use Rattle.qm_tableau.specs.FirstTable.{first_table};
 ghost use Rattle.qm_tableau.specs.Good.{IsGood};
 ghost use Rattle.qm_tableau.specs.Exact.{AreSameTables, exact_table};
+ghost use Rattle.qm_tableau.specs.Wholes.{AreSmallRows, at_place, fractions_of, updated_row};
 
 /// A pivot that doesn't leave has the numbers of the pivot in unbounded fractions.
 #[tactic(auto, using(crate::proofs::Exactness::pivot_exact))]
@@ -22,6 +23,20 @@ pub fn pivots_are_exact()
         All (λ row. length row ≡ suc (length t.columns)) t.rows →
         All (λ row. All HasPositiveDen row) t.rows → pivoted t r c ≡ Ok u →
         AreSameTables u (exact_table t r c) }
+{}
+
+/// On rows of small whole numbers no operation of a pivot in a positive entry leaves, and the rows after it
+/// are the updated ones.
+#[tactic(auto, using(crate::proofs::NoLeaving::pivot_is))]
+pub fn whole_rows_are_pivoted()
+    ensures { (t : Table) (rows : List (List ℤ)) (r c : ℕ) → AreSmallRows t rows → r < length rows →
+        c ≤ length t.columns → pos 0 <ℤ at_place (slice_index_or rows r []) (suc c) →
+        pivoted t r c ≡ Ok (record { columns = slice_set t.columns (c - 1) r; rows = map (λ row. fractions_of (updated_row c (slice_index_or rows r []) row)) rows }) }
+{}
+
+/// Nor does any operation of the rule leave on such rows.
+pub fn the_rule_never_leaves_whole_rows()
+    ensures { (t : Table) (rows : List (List ℤ)) → AreSmallRows t rows → IsOk (chosen t) }
 {}
 
 /// A pivot keeps every row the same function: at any values of the columns' quantities, with what the

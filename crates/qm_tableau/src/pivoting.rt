@@ -1,4 +1,4 @@
-ghost use Rattle.std.specs.Prelude.{◌≡◌, ◌<◌, ◌^◌, ◌≤◌, length, slice_set, unsigned_abs};
+ghost use Rattle.std.specs.Prelude.{◌≡◌, ◌<◌, ◌^◌, ◌≤◌, OnErr, length, slice_set, unsigned_abs};
 ghost use Rattle.qm_tableau.specs.Tables.{entry_at, entry_of, row_at};
 ghost use Rattle.qm_tableau.specs.Leaving.{giving, placed};
 ghost use Rattle.qm_tableau.specs.Pivoting.{less_multiple, new_entries, new_entry, new_row, new_rows};
@@ -7,6 +7,7 @@ ghost use Rattle.qm_frac.specs.Checked.{divided};
 use crate::LeavesAt;
 use crate::grid::Grid;
 use qm_frac::{Frac, Leaves};
+use std::mem;
 
 /// The entry less a multiple of another. A product with 0 doesn't change it.
 #[tactic(auto, using(crate::proofs::Zeros::less_zero, crate::proofs::Zeros::zero_left, crate::proofs::Zeros::zero_right))]
@@ -86,7 +87,7 @@ fn write_row(
 }
 
 /// Writes all rows as they are after the pivot.
-pub fn write_rows(numbers: &Grid, out: &mut Grid, row: u32, col: u32) -> Result<(), LeavesAt>
+fn write_rows(numbers: &Grid, out: &mut Grid, row: u32, col: u32) -> Result<(), LeavesAt>
     requires row { row < length numbers.now.rows }
     requires col { col < numbers.now.width }
     requires entry { 0 < unsigned_abs (entry_at numbers.now.rows row col).num }
@@ -105,5 +106,32 @@ pub fn write_rows(numbers: &Grid, out: &mut Grid, row: u32, col: u32) -> Result<
         let factor = factor_of(i as u32, col, row[col as usize], pivot)?;
         write_row(out, i as u32, col, factor, row, leaving)?;
     }
+    Ok(())
+}
+
+/// The rows after the pivot in the place of the rows, with as many to write them over. Where an operation
+/// leaves the rows stay.
+pub fn pivot_fractions(
+    numbers: &mut Grid,
+    spare: &mut Grid,
+    row: u32,
+    col: u32,
+) -> Result<(), LeavesAt>
+    requires row { row < length numbers.old.rows }
+    requires col { col < numbers.old.width }
+    requires entry { 0 < unsigned_abs (entry_at numbers.old.rows row col).num }
+    requires rows { length spare.old.rows ≡ length numbers.old.rows }
+    requires width { spare.old.width ≡ numbers.old.width }
+    requires few_rows { length numbers.old.rows < 2 ^ 32 }
+    requires few_columns { numbers.old.width < 2 ^ 32 }
+    ensures rows { giving result numbers.new.rows ≡ new_rows col (row_at numbers.old.rows row) 0 numbers.old.rows }
+    ensures unchanged { OnErr result (numbers.new ≡ numbers.old) }
+    ensures count { length numbers.new.rows ≡ length numbers.old.rows }
+    ensures width { numbers.new.width ≡ numbers.old.width }
+    ensures spare_count { length spare.new.rows ≡ length numbers.new.rows }
+    ensures spare_width { spare.new.width ≡ numbers.new.width }
+{
+    write_rows(numbers, spare, row, col)?;
+    mem::swap(numbers, spare);
     Ok(())
 }

@@ -1,25 +1,22 @@
-ghost use Rattle.std.specs.Prelude.{◌≡◌, ◌<◌, ◌≤◌, ◌*◌, ◌^◌, ◌-◌, suc, IfOk, OnErr, length, slice_index_or, unsigned_abs};
-ghost use Rattle.qm_tableau.specs.Tables.{entry_at, row_at, rows_of};
+ghost use Rattle.std.specs.Prelude.{◌≡◌, ◌<◌, ◌≤◌, ◌^◌, ◌-◌, suc, IfOk, OnErr, length, slice_index_or, unsigned_abs};
+ghost use Rattle.qm_tableau.specs.Tables.{entry_at};
 ghost use Rattle.qm_tableau.specs.Leaving.{giving};
 ghost use Rattle.qm_tableau.specs.Pivoting.{pivoted};
 ghost use Rattle.qm_tableau.specs.Rule.{IsInTable, chosen};
 
 use crate::choosing::choose_among;
-use crate::grid::Grid;
-use crate::pivoting::write_rows;
+use crate::rows::Rows;
 use crate::{Choice, LeavesAt};
 use qm_frac::Frac;
 use qm_io::List;
 use std::marker::Model;
-use std::mem;
 
 /// Rows of fractions: row 0 belongs to the objective and column 0 to the constants; each column from 1
 /// on belongs to the quantity of a row. Contracts see the rows and, for each column from 1 on, that row.
 #[derive(Debug, Drop)]
 pub struct Tableau {
     columns: List<u32>,
-    numbers: Grid,
-    spare: Grid,
+    numbers: Rows,
 }
 
 impl Model for Tableau {
@@ -30,26 +27,25 @@ impl Model for Tableau {
 
     ghost view = { λ t. record { columns = t.columns; rows = t.numbers.rows } };
 
-    ghost invariant = { λ t. (t.numbers.width ≡ suc (length t.columns)) × (t.spare.width ≡ t.numbers.width)
-        × (length t.spare.rows ≡ length t.numbers.rows) × (length t.numbers.rows < 2 ^ 32) × (t.numbers.width < 2 ^ 32) };
+    ghost invariant = { λ t. (t.numbers.width ≡ suc (length t.columns))
+        × (length t.numbers.rows < 2 ^ 32) × (t.numbers.width < 2 ^ 32) };
 }
 
 impl Tableau {
-    /// The tableau of entries in rows, one after the other. `spare` is room for as many.
-    #[tactic(auto, using(crate::proofs::Cuts::length_rows_of))]
-    pub fn new(columns: List<u32>, entries: List<Frac>, spare: List<Frac>, height: usize) -> Tableau
+    /// The tableau of these rows.
+    pub(crate) fn new(columns: List<u32>, numbers: Rows) -> Tableau
         requires columns { length columns < 2 ^ 32 - 1 }
-        requires height { height < 2 ^ 32 }
-        requires entries { length entries ≡ height * suc (length columns) }
-        requires spare { length spare ≡ length entries }
-        ensures { result ≡ record { columns = columns; rows = rows_of (suc (length columns)) height entries } }
+        requires height { length numbers.rows < 2 ^ 32 }
+        requires width { numbers.width ≡ suc (length columns) }
+        ensures { result ≡ record { columns = columns; rows = numbers.rows } }
     {
-        let width = columns.len() + 1;
-        Tableau {
-            columns,
-            numbers: Grid::new(entries, width, height),
-            spare: Grid::new(spare, width, height),
-        }
+        Tableau { columns, numbers }
+    }
+
+    /// Whether the entries are kept as whole numbers over one denominator a row, which pivots change in a
+    /// fraction of the time. It changes no answer, and no contract says when it is so.
+    pub fn is_whole(&self) -> bool {
+        self.numbers.is_whole()
     }
 
     /// How many rows there are.
@@ -84,22 +80,13 @@ impl Tableau {
         self.columns.as_slice()
     }
 
-    /// The entries of a row, the constant in front.
-    pub fn row(&self, row: u32) -> &[Frac]
-        requires { row < length self.now.rows }
-        ensures row { result.now ≡ row_at self.now.rows row }
-        ensures width { length result.now ≡ suc (length self.now.columns) }
-    {
-        self.numbers.row(row as usize)
-    }
-
     /// The entry in this row and column.
     pub fn entry(&self, row: u32, col: u32) -> Frac
         requires row { row < length self.now.rows }
         requires col { col ≤ length self.now.columns }
         ensures { result ≡ entry_at self.now.rows row col }
     {
-        self.numbers.row(row as usize)[col as usize]
+        self.numbers.entry(row as usize, col as usize)
     }
 
     /// The next pivot by the rule. `LeavesAt` names the first operation that leaves.
@@ -120,8 +107,7 @@ impl Tableau {
         ensures new { giving result self.new ≡ pivoted self.old row col }
         ensures unchanged { OnErr result (self.new ≡ self.old) }
     {
-        write_rows(&self.numbers, &mut self.spare, row, col)?;
-        mem::swap(&mut self.numbers, &mut self.spare);
+        self.numbers.pivot(row, col)?;
         self.columns.set(col as usize - 1, row);
         Ok(())
     }

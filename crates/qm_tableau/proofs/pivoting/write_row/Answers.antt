@@ -1,7 +1,6 @@
 use Rattle.std.proofs.Common.{◌≡◌, ◌<◌, length, get_or, set, sym, ◌∙◌, List, [], arith, ap, ap₂, Ok}
 use Rattle.std.proofs.lemmas.List.{length-set}
 use Rattle.qm_math.specs.Fraction.{Fraction}
-use Rattle.qm_tableau.specs.Tables.{Numbers}
 use Rattle.qm_tableau.specs.Pivoting.{new_entry}
 use Rattle.qm_tableau.proofs.Steps.{entry_done, others_stay, row_finished, width_stays}
 use Rattle.qm_tableau.proofs.pivoting.write_row.Goals as goal
@@ -12,7 +11,7 @@ loop-k-preserved c =
     let at = c.args.i in
     let k = c.loop-k.k in
     let x = c.in_ok-number.number in
-    let new : c.set.new.self.rows ≡ set rows at (set (get_or rows at []) k x) = ap (λ (g : Numbers). g.rows) c.set.ensures in
+    let new : c.set.new.self.rows ≡ set rows at (set (get_or rows at []) k x) = c.set.ensures.rows in
     let many : length rows ≡ length c.args.out.now.rows = ap (λ (m : List (List Fraction)). length m) c.loop-k.invariant.others ∙ length-set _ at _ in
     let first : at < length c.args.out.now.rows = c.requires.i in
     let inside : at < length rows = omega (arith, many, first) in
@@ -29,7 +28,7 @@ loop-k-preserved c =
       row = entry_done at c.args.col c.args.factor k t o c.args.row.now c.args.leaving.now _ rows _ at x in_row in_leaving inside room is new c.loop-k.invariant.row;
       others = others_stay c.args.out.now.rows rows _ at _ first c.loop-k.invariant.others new;
       here = width_stays rows _ at k _ x inside c.loop-k.invariant.here new;
-      width = ap (λ (g : Numbers). g.width) c.set.ensures ∙ c.loop-k.invariant.width;
+      width = c.set.ensures.width ∙ c.loop-k.invariant.width;
     }
 
 pub returns-clause-row : goal.returns-clause-row

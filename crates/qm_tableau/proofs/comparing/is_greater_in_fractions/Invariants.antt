@@ -1,6 +1,6 @@
 use Rattle.std.proofs.Common.{◌≡◌, drop}
 use Rattle.qm_tableau.specs.Rule.{is_greater}
-use Rattle.qm_tableau.proofs.choosing.is_greater.Given as goal
+use Rattle.qm_tableau.proofs.comparing.is_greater_in_fractions.Given as goal
 
 abbrev pub invariant-loop-i : goal.invariant-loop-i
 invariant-loop-i l =
