@@ -1,7 +1,18 @@
-use Rattle.std.proofs.Common.{◌∙◌, arith}
+use Rattle.std.proofs.Common.{◌∙◌, refl, sym, arith, subst, IsTrue, false}
 use Rattle.std.proofs.lemmas.Int.{ints}
-use Rattle.qm_legal.proofs.Parts.{dead_tried}
+use Rattle.qm_legal.proofs.Parts.{dead_tried, none_longer}
 use Rattle.qm_legal.proofs.run.dead_run.Goals as goal
+
+pub loop-bracket-init : goal.loop-bracket-init
+loop-bracket-init c =
+    rw c.bracket_of.ensures (record {
+      same = refl;
+      from = omega (arith, ints);
+      some = c.requires.before;
+      high = omega (arith, ints);
+      dead = c.requires.dead;
+      longest = λ v above within dead. absurd (omega (arith, ints, above, within));
+    })
 
 pub loop-bracket-preserved-then-is_dead_with : goal.loop-bracket-preserved-then-is_dead_with
 loop-bracket-preserved-then-is_dead_with c =
@@ -10,9 +21,10 @@ loop-bracket-preserved-then-is_dead_with c =
     rw c.upper-bracket-then-is_dead_with.ensures (record {
       same = c.is_dead_with.ensures.same ∙ before.same;
       from = omega (arith, ints, before.from, tried.above);
-      last = tried.within;
+      some = tried.within;
       high = before.high;
       dead = dead_tried c.args.row.now c.loop-bracket.bx c.args.bx.now c.args.here.depth c.args.run c.halved-tried.result before.same tried.low (c.is_dead_with.ensures.answer.0 c.if-is_dead_with.true);
+      longest = before.longest;
     })
 
 pub loop-bracket-preserved : goal.loop-bracket-preserved
@@ -22,7 +34,9 @@ loop-bracket-preserved c =
     rw c.lower-bracket.ensures (record {
       same = c.is_dead_with.ensures.same ∙ before.same;
       from = before.from;
-      last = omega (arith, ints, tried.above);
+      some = omega (arith, ints, tried.above);
       high = omega (arith, ints, tried.within, before.high);
       dead = before.dead;
+      longest = none_longer c.args.row.now c.loop-bracket.bx c.args.bx.now c.args.here.depth c.args.run c.halved-tried.result c.args.last before.same tried.low
+          (λ dead. absurd (subst IsTrue c.if-is_dead_with.false (c.is_dead_with.ensures.answer.1 dead)));
     })

@@ -1,4 +1,4 @@
-use Rattle.std.proofs.Common.{rules, ◌≡◌, ℤ, ◌<ℤ◌, false, ◌∙◌, [], ◌∷◌, ◌++◌, drop, length, refl, sym, to_z, ap, subst, set, arith}
+use Rattle.std.proofs.Common.{rules, ◌≡◌, ℕ, List, ℤ, ◌<ℤ◌, false, ◌∙◌, [], ◌∷◌, ◌++◌, drop, length, refl, sym, to_z, ap, subst, set, arith}
 use Rattle.std.proofs.lemmas.Int.{ints, to_z-of_z}
 use Rattle.std.proofs.lemmas.List.{length-drop}
 use mir.Syntax.{w128}
@@ -6,16 +6,21 @@ use mir.Val.{SFits}
 use Rattle.std.specs.Prelude.{IsSomeAnd, int_le, slice_get}
 use Rattle.qm_math.proofs.WholeTests.{le_of_test}
 use Rattle.qm_model.specs.declared.variable.Player.TheVariants.{Exists}
+use Rattle.qm_model.specs.declared.range.Range.{Range}
 use Rattle.qm_model.specs.Boxes.{IsDead}
+use Rattle.qm_model.specs.Ranges.{range_at}
 use Rattle.qm_model.proofs.Players.{exists_of}
 use Rattle.qm_cover.proofs.Places.{put_back}
 use Rattle.qm_legal.proofs.Boxes.{one_inside, set_in_box}
 use Rattle.qm_legal.proofs.Places.{alive_behind, alive_behind_value, completed_at_end, completed_behind_value, found_behind_if, part_from, reached_more, sets_next, some_next}
 use Rattle.qm_legal.proofs.Found.{part_found, split_found}
-use Rattle.qm_legal.proofs.search.+search.Goals as goal
+use Rattle.qm_legal.proofs.plain.+search.Goals as goal
 
 past_of_test : (a b : ℤ) → int_le a b ≡ false → b <ℤ a
 past_of_test a b e = grind (arith, ints)
+
+last_is : (before bx : List Range) (depth : ℕ) (covered : Range) → before ≡ bx → covered ≡ range_at bx depth → (range_at before depth).high ≡ covered.high
+last_is before bx depth covered same is = ap (λ b. (range_at b depth).high) same ∙ ap (λ (r : Range). r.high) (sym is)
 
 pub search-returns-in-None : goal.search-returns-in-None
 search-returns-in-None t c = completed_at_end c.args.here.game.now c.args.here.depth c.args.bx.now c.args.here.rest.now c.args.here.from_depth c.in-None.ensures.cases c.requires
@@ -57,6 +62,15 @@ search_part-dead_part-requires-clause-dead t c =
     c.put.ensures refl c.put-in-Some.ensures c.range-before.ensures in
     subst (λ b. IsSomeAnd (slice_get c.args.here.game.now.urows c.in-Some.number) (IsDead b)) (c.put.ensures ∙ sym (ap (λ b. set b c.args.here.depth c.args.run) back)) c.in-Some.ensures.has
 
+pub search_part-dead_part-requires-clause-before : goal.search_part-dead_part-requires-clause-before
+search_part-dead_part-requires-clause-before t c = rw c.range-before.ensures c.requires.run.high
+
+pub search_part-dead_part-requires-clause-last : goal.search_part-dead_part-requires-clause-last
+search_part-dead_part-requires-clause-last t c =
+    let back = put_back c.args.bx.now c.put.new.bx c.put.new.bx c.put-in-Some.new.bx c.args.here.depth c.args.run c.range-before.result
+    c.put.ensures refl c.put-in-Some.ensures c.range-before.ensures in
+    rw (back, c.range-before.ensures) (omega (arith, ints))
+
 pub search_part-search-requires : goal.search_part-search-requires
 search_part-search-requires t c =
     let alive = rw c.put.ensures at c.in-None.ensures in (
@@ -74,7 +88,7 @@ pub search_part-returns-in_ok-part-in-Some : goal.search_part-returns-in_ok-part
 search_part-returns-in_ok-part-in-Some t c =
     let back = put_back c.args.bx.now c.put.new.bx c.put.new.bx c.put-in-Some.new.bx c.args.here.depth c.args.run c.range-before.result
     c.put.ensures refl c.put-in-Some.ensures c.range-before.ensures in
-    (rw back at c.in_ok-part-in-Some.ensures.part, c.in_ok-part-in-Some.ensures.same ∙ back)
+    (rw (back, c.range-before.ensures) at c.in_ok-part-in-Some.ensures.part, c.in_ok-part-in-Some.ensures.same ∙ back)
 
 pub search_part-returns-in-None-2 : goal.search_part-returns-in-None-2
 search_part-returns-in-None-2 t c =
@@ -86,7 +100,7 @@ search_part-returns-in-Some-2 t c =
     let found = rw c.in-Some-2.is at c.in_ok-search-in-None.ensures in
     let back = put_back c.args.bx.now c.put.new.bx c.search.new.bx c.put-in-Some-2.new.bx c.args.here.depth c.args.run c.range-before.result
     c.put.ensures found.1 c.put-in-Some-2.ensures c.range-before.ensures in
-    part_found c.args.here.game.now (drop 1 c.args.here.rest.now) c.args.here.depth c.args.bx.now c.args.run c.in-Some-2.below c.part_of.result c.put-in-Some-2.new.bx c.requires.run
+    part_found c.args.here.game.now (drop 1 c.args.here.rest.now) c.args.here.depth c.args.bx.now c.args.run c.in-Some-2.below c.part_of.result c.put-in-Some-2.new.bx (range_at c.args.bx.now c.args.here.depth).high c.requires.run.single c.requires.run.high
     (rw (c.behind.ensures.game, c.behind.ensures.rest, c.behind.ensures.depth, c.put.ensures) at found.0) c.part_of.ensures.range c.part_of.ensures.below back
 
 pub search_values-loop-alloc-smaller : goal.search_values-loop-alloc-smaller
@@ -95,7 +109,8 @@ search_values-loop-alloc-smaller t c =
     let covered = c.range-covered.result in
     let next = to_z w128 c.loop-alloc.next-bits in
     let found = rw c.in-Some.is at c.in_ok-search_part.ensures in
-    let part = part_from P (drop 1 c.args.here.rest.now) c.args.here.depth c.args.bx.now c.loop-alloc.bx covered c.single_at.result next c.in-Some.part c.loop-alloc.invariant.same c.loop-alloc.invariant.covered
+    let part = part_from P (drop 1 c.args.here.rest.now) c.args.here.depth c.args.bx.now c.loop-alloc.bx covered c.single_at.result next (range_at c.loop-alloc.bx c.args.here.depth).high c.in-Some.part c.loop-alloc.invariant.same
+    (last_is c.loop-alloc.bx c.args.bx.now c.args.here.depth covered c.loop-alloc.invariant.same c.loop-alloc.invariant.covered)
     c.single_at.ensures found.0 in
     let left = le_of_test next covered.high (sym c.is_left.ensures ∙ c.loop-alloc-test.true) in
     let fits : SFits w128 c.after-next.result = search rules in
@@ -108,7 +123,8 @@ search_values-loop-alloc-preserved t c =
     let covered = c.range-covered.result in
     let next = to_z w128 c.loop-alloc.next-bits in
     let found = rw c.in-Some.is at c.in_ok-search_part.ensures in
-    let part = part_from P (drop 1 c.args.here.rest.now) c.args.here.depth c.args.bx.now c.loop-alloc.bx covered c.single_at.result next c.in-Some.part before.same before.covered
+    let part = part_from P (drop 1 c.args.here.rest.now) c.args.here.depth c.args.bx.now c.loop-alloc.bx covered c.single_at.result next (range_at c.loop-alloc.bx c.args.here.depth).high c.in-Some.part before.same
+    (last_is c.loop-alloc.bx c.args.bx.now c.args.here.depth covered before.same before.covered)
     c.single_at.ensures found.0 in
     let pushed : c.push.new.self ≡ c.loop-alloc.parts ++ c.in-Some.part ∷ [] = search rules in
     let fits : SFits w128 c.after-next.result = search rules in
@@ -126,4 +142,4 @@ search_values-returns t c =
     let bx = c.args.bx.now in
     let before = c.loop-alloc.invariant in
     let past = past_of_test (to_z w128 c.loop-alloc.next-bits) c.range-covered.result.high (sym c.is_left.ensures ∙ c.loop-alloc-test.false) in
-    rw c.number_of.ensures (split_found P rest depth bx c.range-covered.result (to_z w128 c.loop-alloc.next-bits) c.loop-alloc.parts c.loop-alloc.bx c.requires.player before.covered before.reached past before.same)
+    rw c.split.ensures (split_found P rest depth bx c.range-covered.result (to_z w128 c.loop-alloc.next-bits) c.loop-alloc.parts c.loop-alloc.bx c.requires.player before.covered before.reached past before.same)

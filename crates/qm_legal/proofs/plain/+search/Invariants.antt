@@ -1,7 +1,7 @@
 use Rattle.std.proofs.Common.{◌≡◌, ◌-◌, ◌*◌, drop, length, unsigned_abs, ◌-ℤ◌, ◌+ℤ◌, pos}
 use Rattle.qm_model.specs.Ranges.{range_at}
 use Rattle.qm_legal.proofs.Places.{Reached}
-use Rattle.qm_legal.proofs.search.+search.Given as goal
+use Rattle.qm_legal.proofs.plain.+search.Given as goal
 
 abbrev pub decreases-search : goal.decreases-search
 decreases-search l = 3 * length l.here.rest.now
