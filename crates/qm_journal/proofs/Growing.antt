@@ -36,6 +36,9 @@ position_of-old J K n within =
     ap (λ ps. get_or ps n start) (positions_from-append (start ∷ []) J K)
     ∙ get_or-positions_from (positions J) K n (omega (arith, length-positions J, within))
 
+pub position_of-start : (J : List JEntry) → position_of J 0 ≡ start
+position_of-start J = position_of-old [] J 0 (omega arith)
+
 -- a new entry stands where it continues its parent
 pub position_of-new : (J : List JEntry) (e : JEntry) → position_of (J ++ e ∷ []) (suc (length J)) ≡ next_position e.kind (position_of J e.parent) e.value
 position_of-new J e =
