@@ -14,6 +14,7 @@
 #![tactic(auto)]
 
 mod answer;
+mod asked;
 mod boxes;
 mod certificates;
 mod combinations;

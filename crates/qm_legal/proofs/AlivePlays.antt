@@ -3,7 +3,7 @@ use Rattle.std.proofs.Common.{◌≡◌, refl, sym, ap, subst, ◌∙◌, ℕ, z
 use Rattle.std.specs.Prelude.{filter, if◌then◌else◌}
 use Rattle.std.proofs.Math.IntN.{zero-*ℤ}
 use Rattle.std.proofs.lemmas.Int.{ints}
-use Rattle.std.proofs.lemmas.List.{take-append-drop, length-map}
+use Rattle.std.proofs.lemmas.List.{take-append-drop}
 use Rattle.qm_math.specs.Ranges.{least_product}
 use Rattle.qm_math.proofs.Sums.{sum_of_each-same}
 use Rattle.qm_model.specs.declared.range.Range.{Range}
@@ -41,10 +41,14 @@ play_box-other x xs (u ∷ us) e = rw e refl
 play_box-here : (x : Var) (xs : List Var) (u : ℤ) (us : List ℤ) → is_universal x ≡ true → play_box (x ∷ xs) (u ∷ us) ≡ single u ∷ play_box xs us
 play_box-here x xs u us e = rw e refl
 
+length-bounds : (xs : List Var) → length (whole_box_of xs) ≡ length xs
+length-bounds [] = refl
+length-bounds (x ∷ xs) = ap suc (length-bounds xs)
+
 length-play_box : (xs : List Var) (us : List ℤ) → length (play_box xs us) ≡ length xs
 length-play_box [] [] = refl
 length-play_box [] (u ∷ us) = refl
-length-play_box (x ∷ xs) [] = length-map bounds_of (x ∷ xs)
+length-play_box (x ∷ xs) [] = ap suc (length-bounds xs)
 length-play_box (x ∷ xs) (u ∷ us) = by (is_universal x) (length-play_box xs us) (length-play_box xs (u ∷ us))
   where
     by : (b : Bool) → length (play_box xs us) ≡ length xs → length (play_box xs (u ∷ us)) ≡ length xs

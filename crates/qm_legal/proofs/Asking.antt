@@ -1,5 +1,5 @@
 -- Where the search begins for a question, and what its answer adds.
-use Rattle.std.proofs.Common.{◌≡◌, refl, sym, ap, subst, ◌∙◌, ℕ, zero, suc, ◌+◌, ◌≤◌, Bool, true, false, List, [], ◌∷◌, ◌++◌, length, length-append, arith, ℤ, Option, Some, None, IsTrue}
+use Rattle.std.proofs.Common.{◌≡◌, refl, sym, ap, subst, ◌∙◌, ℕ, zero, suc, ◌+◌, ◌-◌, ◌<◌, ◌≤◌, Bool, true, false, List, [], ◌∷◌, ◌++◌, length, length-append, arith, ℤ, Option, Some, None, IsTrue}
 use Rattle.std.specs.Prelude.{IsSomeAnd, filter, slice_get, if◌then◌else◌}
 use Rattle.std.proofs.lemmas.List.{append-nil}
 use Rattle.qm_model.specs.declared.row.Row.{Row}
@@ -19,7 +19,7 @@ use Rattle.qm_journal.specs.Positions.{IsParent, position_of}
 use Rattle.qm_journal.specs.Questions.{IsNewQuestion, MayAdd, WentOn, named_prefix}
 use Rattle.qm_journal.proofs.Apart.{game_at, query_parent}
 use Rattle.qm_journal.proofs.Counting.{game_prefix}
-use Rattle.qm_journal.proofs.Entries.{Stands, entry_at}
+use Rattle.qm_journal.proofs.Entries.{entry_at}
 use Rattle.qm_journal.proofs.Growing.{position_of-start}
 use Rattle.qm_legal.specs.declared.named.NamedPrefix.{NamedPrefix}
 use Rattle.qm_legal.specs.Queries.{IsQueryOf, set_values}
@@ -43,21 +43,30 @@ within_with (x ∷ xs) (p ∷ prefix) v turn before play =
     (λ existential. within_with xs prefix v turn before.1 (rw (not_universal x existential) at play))
     (λ universal. within_with xs prefix v turn before.1 (rw (is_for_all x universal) at play).1))
 
--- the prefix of an entry is one value longer than its parent's
-pub parent_length : (P : Problem) (J : List JEntry) (i : ℕ) → IsLawful P J → IsParent Query J (suc i) → length (position_of J (suc i)).prefix ≡ length (position_of J (entry_at J i).parent).prefix + 1
-parent_length P J i lawful parent =
-    let here = game_at P J i lawful (query_parent J (suc i) parent) in
-    ap (λ p. length p.prefix) here.position ∙ length-append (position_of J (entry_at J i).parent).prefix ((entry_at J i).value ∷ [])
-
-pub parent_before : (P : Problem) (J : List JEntry) (i : ℕ) → IsLawful P J → IsParent Query J (suc i) → (entry_at J i).parent ≤ i
-parent_before P J i lawful parent = (game_at P J i lawful (query_parent J (suc i) parent)).before
-
 query_of_game : (J : List JEntry) (n : ℕ) → IsParent Game J n → IsParent Query J n
 query_of_game J zero h = tt
 query_of_game J (suc b) h = h
 
-pub parent_again : (P : Problem) (J : List JEntry) (i : ℕ) → IsLawful P J → IsParent Query J (suc i) → IsParent Query J (entry_at J i).parent
-parent_again P J i lawful parent = query_of_game J (entry_at J i).parent (game_at P J i lawful (query_parent J (suc i) parent)).parent
+-- the parent of an entry stands before it, and its prefix is one value shorter
+pub record IsStepBack (J : List JEntry) (at parent : ℕ) : Type 0 where
+  pub again : IsParent Query J parent
+  pub before : parent < at
+  pub longer : length (position_of J at).prefix ≡ length (position_of J parent).prefix + 1
+
+step_back-at : (P : Problem) (J : List JEntry) (i : ℕ) → IsLawful P J → IsParent Query J (suc i) → IsStepBack J (suc i) (entry_at J i).parent
+step_back-at P J i lawful parent =
+    let here = game_at P J i lawful (query_parent J (suc i) parent) in
+    record {
+      again = query_of_game J (entry_at J i).parent here.parent;
+      before = omega (arith, here.before);
+      longer = ap (λ p. length p.prefix) here.position ∙ length-append (position_of J (entry_at J i).parent).prefix ((entry_at J i).value ∷ []);
+    }
+
+pub step_back : (P : Problem) (J : List JEntry) (at : ℕ) → IsLawful P J → IsParent Query J at → 0 < at → IsStepBack J at (entry_at J (at - 1)).parent
+step_back P J zero lawful parent some = absurd (omega (arith, some))
+step_back P J (suc i) lawful parent some =
+    let down : suc i - 1 ≡ i = omega arith in
+    rw down (step_back-at P J i lawful parent)
 
 pub no_prefix : (J : List JEntry) → length (position_of J 0).prefix ≡ 0
 no_prefix J = ap (λ p. length p.prefix) (position_of-start J)

@@ -6,6 +6,7 @@ use Rattle.std.proofs.lemmas.List.{append-nil, append_assoc, length-take-le}
 use Rattle.std.proofs.lemmas.List.Elements.{All-append, All-cons, All-nil, All-weaker}
 use Rattle.qm_math.specs.Ranges.{IsBetween}
 use Rattle.qm_model.specs.declared.range.Range.{Range}
+use Rattle.qm_model.specs.declared.variable.Var.{Var}
 use Rattle.qm_model.specs.declared.game.Problem.{Problem}
 use Rattle.qm_model.specs.Legal.{universal_part}
 use Rattle.qm_model.specs.Plays.{whole_vars}
@@ -44,7 +45,7 @@ module _ (P : Problem) where
   grown_longer Such J K g = omega (arith, ap length g.behind, length-append J.entries g.added)
 
   within_more : (number : ℕ) (small large : Range) (last later : ℕ) → large.low ≤ℤ small.low → small.high ≤ℤ large.high → last ≤ later → (e : JEntry) → IsStepWithin number small later e → IsStepWithin number large last e
-  within_more number small large last later low high le e (step, inl here) = (step, inl (here.0, omega (arith, ints, low, here.1.0), omega (arith, ints, high, here.1.1)))
+  within_more number small large last later low high le e (step, inl here) = (step, inl (here.0, (omega (arith, ints, low, here.1.0), omega (arith, ints, high, here.1.1))))
   within_more number small large last later low high le e (step, inr behind) = (step, inr (omega (arith, le, behind)))
 
   -- first by steps of some values, then of others
@@ -211,3 +212,20 @@ module _ (P : Problem) where
     where
       of_run : (v : ℤ) → v ≡ run.low → IsBetween run.low run.high v
       of_run v e = (omega (arith, ints, e), omega (arith, ints, e, single_run))
+
+  -- ---- behind a variable of the other player
+
+  pub searched_behind : (depth : ℕ) (bx : List Range) (J : Contents) (entry : Option JEntry) → IsOpenBox P (depth + 1) bx → set_values P (depth + 1) bx ≡ set_values P depth bx
+      → IsSearched P depth bx J entry → IsSearched P (depth + 1) bx J entry
+  searched_behind depth bx J None box values here = record { box = box; lawful = here.lawful; restricted = here.restricted; stands = (values ∙ here.stands.0, here.stands.1) }
+  searched_behind depth bx J (Some e) box values here = record { box = box; lawful = here.lawful; restricted = here.restricted; stands = (here.stands.0, here.stands.1, here.stands.2 ∙ sym values) }
+
+pub added_none : (entry : Option JEntry) (J : List JEntry) → IsAdded entry J []
+added_none None J = All-nil (LeadsTo 0 (length J))
+added_none (Some e) J = tt
+
+pub untried_less : (number : ℕ) (large small : Range) (J : List JEntry) → large.low ≤ℤ small.low → small.high ≤ℤ large.high → AreUntried number large J → AreUntried number small J
+untried_less number large small J low high before k d h step parent between = before k d h step parent (more (get_or J k d).value between)
+  where
+    more : (v : ℤ) → IsBetween small.low small.high v → IsBetween large.low large.high v
+    more v (a, b) = (omega (arith, ints, low, a), omega (arith, ints, high, b))

@@ -10,3 +10,4 @@ pub mod OpenBoxes
 pub mod AlivePlays
 pub mod Growth
 pub mod Asking
+pub mod RangeParts

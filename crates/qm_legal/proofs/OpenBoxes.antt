@@ -16,7 +16,7 @@ use Rattle.qm_trees.specs.Closing.{is_empty_range}
 use Rattle.qm_trees.specs.EmptyJudgement.{some_universal_empty}
 use Rattle.qm_legal.specs.Queries.{AreFree, IsQuery}
 use Rattle.qm_legal.specs.SearchSteps.{IsAliveBox, IsOneOf, SetsNext}
-use Rattle.qm_legal.specs.JournalSteps.{AreOpen, IsOpenBox}
+use Rattle.qm_legal.specs.JournalSteps.{AreOpen, IsAliveValue, IsOpenBox}
 use Rattle.qm_legal.proofs.Lows.{lows}
 use Rattle.qm_legal.proofs.Places.{alive_behind, alive_behind_value, some_next}
 
@@ -139,3 +139,6 @@ module _ (P : Problem) (depth : ℕ) (bx : List Range) (rest : List Var) (from_d
   values_next player r here =
       subst (λ n. lows (take n (whole_vars P)) (set bx depth r) ≡ lows (take depth (whole_vars P)) bx ++ r.low ∷ []) up
       (lows_next (whole_vars P) depth bx r (subst (SetsNext Universal) from_depth player) (next_in_box P rest depth bx from_depth (some_next Universal rest player) here.alive.box))
+
+pub alive_value : (P : Problem) (depth : ℕ) (bx : List Range) (run : Range) → IsOneOf (range_at bx depth) run → HasNone (IsDead (set bx depth run)) P.urows → IsAliveValue P depth bx run
+alive_value P depth bx run one alive = record { one = one; alive = alive }

@@ -4,7 +4,7 @@ ghost use Rattle.qm_journal.specs.Questions.{IsNewQuestion, WentOn, named_prefix
 ghost use Rattle.qm_legal.specs.declared.fault.LegalFault.TheVariants as fault;
 ghost use Rattle.qm_legal.specs.Queries.{IsExact, IsQueryOf, IsRightLegality};
 ghost use Rattle.qm_legal.specs.SearchSteps.{IsFound};
-ghost use Rattle.qm_legal.specs.JournalSteps.{Answered};
+ghost use Rattle.qm_legal.specs.JournalSteps.{Answered, IsOpenBox};
 
 use crate::completion::completion;
 use crate::copied::copied;
@@ -20,8 +20,36 @@ use qm_journal::Journal;
 use qm_trees::Empty;
 use std::alloc::Global;
 
-/// The tree that shows that no play is left, or none, and the box with a play's values. It is asked first whether that
-/// shows at once, then whether first values that no row refuses are a play; neither makes an entry.
+/// The tree that shows that no play is left, or none, and the box with a play's values. First values that no row refuses
+/// are tried without an entry.
+fn looked_for(
+    alloc: Global,
+    here: Place<'_>,
+    named: NamedPrefix,
+    bx: &mut Bx,
+    journal: &mut Journal,
+) -> Result<Option<Empty>, LegalFault>
+    requires lawful { IsLawful here.game.now journal.old.entries }
+    requires new { IsNewQuestion here.game.now journal.old.entries named.parent named.value }
+    requires depth { here.depth ≡ length (named_prefix journal.old.entries named.parent named.value) }
+    requires bx { IsQueryOf here.game.now (named_prefix journal.old.entries named.parent named.value) bx.old }
+    requires still_open { IsOpenBox here.game.now here.depth bx.old }
+    ensures found { IfOk result (IsFound here.entry.game.now here.entry.rest.now here.entry.depth bx.old bx.new) }
+    ensures answered { Answered here.entry.game.now named journal.old journal.new }
+    ensures spent { result ≡ Err fault.Spent → (length journal.new.entries ≡ journal.new.limit) × IsTrue (is_restricted here.entry.game.now) }
+{
+    // that the problem is in order
+    let _problem = here.game.problem();
+    let mut tried = copied(alloc, bx)?;
+    if guess(here, &mut tried) {
+        *bx = tried;
+        return Ok(None);
+    }
+    let guide = guide(alloc, here.game, bx)?;
+    search(alloc, here, query_of(named), guide.as_slice(), bx, journal)
+}
+
+/// The same, where it is asked first whether a tree shows it at once.
 fn answered(
     alloc: Global,
     here: Place<'_>,
@@ -37,24 +65,18 @@ fn answered(
     ensures answered { Answered here.entry.game.now named journal.old journal.new }
     ensures spent { result ≡ Err fault.Spent → (length journal.new.entries ≡ journal.new.limit) × IsTrue (is_restricted here.entry.game.now) }
 {
-    if let Some(tree) = closed_at_once(alloc, here, bx)? {
-        return Ok(Some(tree));
+    match closed_at_once(alloc, here, bx)? {
+        Some(tree) => Ok(Some(tree)),
+        None => looked_for(alloc, here, named, bx, journal),
     }
-    let mut tried = copied(alloc, bx)?;
-    if guess(here, &mut tried) {
-        *bx = tried;
-        return Ok(None);
-    }
-    let guide = guide(alloc, here.game, bx)?;
-    search(alloc, here, query_of(named), guide.as_slice(), bx, journal)
 }
 
 /// Whether the values of the universal variables of the named prefix, which are set in the box, can be completed to a
 /// universal play. The completion has a value for each universal variable behind that prefix. An illegal tree is right
 /// over the box, and no operation leaves.
 /// The journal's entries stay. Behind them may come the query entry of the named prefix, and steps that lead back to it;
-/// for the empty prefix steps alone, that lead back to 0. None comes where no values of the universal player are refused
-/// but by bounds that all have values. `Spent`, only where the journal is full and an entry is needed; `Memory`, where
+/// for the empty prefix steps alone, that lead back to 0. None comes where the game has no uncertainty row
+/// and no empty universal range. `Spent`, only where the journal is full and an entry is needed; `Memory`, where
 /// there is none: then too the journal is lawful, with the entries that were made.
 pub fn legal(
     alloc: Global,

@@ -1,10 +1,7 @@
-ghost use Rattle.std.specs.Prelude.{◌≡◌, ◌<◌, IsTrue, MatchOption, false, length, slice_set, true};
-ghost use Rattle.qm_model.specs.Boxes.{IsBox, IsDead};
-ghost use Rattle.qm_model.specs.Ranges.{range_at};
+ghost use Rattle.std.specs.Prelude.{◌≡◌, IsTrue, MatchOption, false, true};
 ghost use Rattle.qm_model.specs.declared.variable.Player.TheVariants.{All as Universal};
-ghost use Rattle.qm_game.specs.First.{HasNone, IsFirst};
 ghost use Rattle.qm_journal.specs.Lawful.{has_rows};
-ghost use Rattle.qm_legal.specs.SearchSteps.{IsCompleted, IsOneOf, SetsNext};
+ghost use Rattle.qm_legal.specs.SearchSteps.{IsCompleted, SetsNext};
 ghost use Rattle.qm_legal.specs.JournalSteps.{IsAliveValue, IsOpenBox};
 
 use crate::dead::dead_row_with;
@@ -26,7 +23,7 @@ fn first_alive(here: Place<'_>, bx: &mut Bx) -> Option<Range>
         let run = single_at(next, covered);
         match dead_row_with(here, bx, run) {
             None => return Some(run),
-            Some(number) => next = after(dead_range(here, number, bx, run, covered.high)),
+            Some(number) => next = after(dead_range(here, number, bx, run, covered)),
         }
     }
     None
@@ -34,6 +31,7 @@ fn first_alive(here: Place<'_>, bx: &mut Bx) -> Option<Range>
 
 /// Sets each later universal variable to its first value over which no uncertainty row is dead, and tells whether all
 /// have one. It takes nothing back, so where it fails there may still be a play.
+#[cycle(guess)]
 pub fn guess(here: Place<'_>, bx: &mut Bx) -> bool
     requires { IsOpenBox here.game.now here.depth bx.old }
     ensures guessed { result ≡ true → IsCompleted here.entry.game.now here.entry.depth bx.old bx.new }
@@ -42,16 +40,28 @@ pub fn guess(here: Place<'_>, bx: &mut Bx) -> bool
     match here.rest.split_first() {
         None => true,
         Some((var, _later)) => {
-            if !is_for_all(var) {
-                return guess(here.behind(), bx);
+            if is_for_all(var) {
+                guess_value(here, bx)
+            } else {
+                guess(here.behind(), bx)
             }
-            match first_alive(here, bx) {
-                None => false,
-                Some(run) => {
-                    here.put(bx, run);
-                    guess(here.behind(), bx)
-                }
-            }
+        }
+    }
+}
+
+/// The same from the next variable on, which the universal player sets.
+#[cycle(guess)]
+fn guess_value(here: Place<'_>, bx: &mut Bx) -> bool
+    requires bx { IsOpenBox here.game.now here.depth bx.old }
+    requires player { SetsNext Universal here.rest.now }
+    ensures guessed { result ≡ true → IsCompleted here.entry.game.now here.entry.depth bx.old bx.new }
+    ensures restricted { result ≡ false → IsTrue (has_rows here.entry.game.now.urows) }
+{
+    match first_alive(here, bx) {
+        None => false,
+        Some(run) => {
+            here.put(bx, run);
+            guess(here.behind(), bx)
         }
     }
 }

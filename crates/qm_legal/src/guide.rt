@@ -1,5 +1,6 @@
-ghost use Rattle.std.specs.Prelude.{◌≤ℤ◌};
+ghost use Rattle.std.specs.Prelude.{◌≡◌, ◌≤ℤ◌, ◌<ℤ◌, ◌-ℤ◌, pos};
 ghost use Rattle.qm_model.specs.Boxes.{IsBox};
+ghost use Rattle.qm_legal.specs.SearchSteps.{range_to};
 
 use crate::copied::copied;
 use qm_game::{Bx, Game, Range};
@@ -18,14 +19,29 @@ pub fn guide(alloc: Global, game: &Game, bx: &Bx) -> Result<Bx, Memory>
     }
 }
 
-/// The value of the range to begin with: the low end of what the guide leaves of it, else its own.
-pub fn first_tried(guide: &[Range], at: usize, covered: Range) -> i64
+/// The values of the range to begin with: from the low end of what the guide leaves of it on, else all.
+pub fn upper_values(guide: &[Range], at: usize, covered: Range) -> Range
     requires { covered.low ≤ℤ covered.high }
-    ensures low { covered.low ≤ℤ result }
-    ensures high { result ≤ℤ covered.high }
+    ensures low { covered.low ≤ℤ result.low }
+    ensures some { result.low ≤ℤ result.high }
+    ensures high { result.high ≡ covered.high }
 {
     match guide.get(at) {
-        Some(range) if covered.low <= range.low && range.low <= covered.high => range.low,
-        _ => covered.low,
+        Some(left) if covered.low <= left.low && left.low <= covered.high => Range {
+            low: left.low,
+            high: covered.high,
+        },
+        _ => covered,
+    }
+}
+
+/// The values of the range before these upper ones.
+pub fn lower_values(covered: Range, upper: Range) -> Range
+    requires { covered.low <ℤ upper.low }
+    ensures { result ≡ range_to covered.low (upper.low -ℤ pos 1) }
+{
+    Range {
+        low: covered.low,
+        high: upper.low - 1,
     }
 }

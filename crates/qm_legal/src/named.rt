@@ -1,4 +1,4 @@
-ghost use Rattle.std.specs.Prelude.{◌≡◌, ◌+◌, IfOk, OnErr, OnOk, Err, length};
+ghost use Rattle.std.specs.Prelude.{◌≡◌, ◌+◌, ◌≤◌, IfOk, OnErr, OnOk, Err, length};
 ghost use Rattle.qm_journal.specs.Positions.{IsParent, position_of};
 ghost use Rattle.qm_journal.specs.Lawful.{IsLawful};
 ghost use Rattle.qm_journal.specs.Questions.{IsNewQuestion, named_prefix};
@@ -7,7 +7,7 @@ ghost use Rattle.qm_legal.specs.declared.fault.LegalFault.TheVariants as fault;
 ghost use Rattle.qm_legal.specs.JournalSteps.{IsFull, number_after, query_of, step_of, with_entry};
 
 use crate::fault::LegalFault;
-use qm_game::Game;
+use qm_game::{Game, Range};
 use qm_journal::{JEntry, JKind, Journal};
 
 /// What is asked about: the prefix of the game entry of the number `parent`, or the empty one for 0, with `value` behind
@@ -22,7 +22,8 @@ pub struct NamedPrefix {
 pub fn prefix_length(game: &Game, entries: &[JEntry], number: u32) -> usize
     requires lawful { IsLawful game.now entries.now }
     requires parent { IsParent Query entries.now number }
-    ensures { result ≡ length (position_of entries.now number).prefix }
+    ensures length { result ≡ length (position_of entries.now number).prefix }
+    ensures few { result ≤ number }
 {
     let mut count = 0;
     let mut at = number;
@@ -58,13 +59,13 @@ pub fn query_of(named: NamedPrefix) -> Option<JEntry>
 }
 
 /// The step entry of this value behind the entry of this number.
-pub fn step_of(number: u32, value: i64) -> JEntry
-    ensures { result ≡ step_of number value }
+pub fn step_of(number: u32, run: Range) -> JEntry
+    ensures { result ≡ step_of number run.low }
 {
     JEntry {
         kind: JKind::Step,
         parent: number,
-        value,
+        value: run.low,
     }
 }
 

@@ -34,21 +34,22 @@ pub fn split(here: Place<'_>, parts: Items<EmptyPart>) -> Empty
     }
 }
 
-/// The longest run of values from the low end of this one on, at most up to `last`, that the uncertainty row of this
+/// The longest run of values from the low end of this one on, at most up to the high end of `within`, that the uncertainty row of this
 /// number is dead over, where it is dead over this one. The box stays as it was.
-pub fn dead_range(here: Place<'_>, number: u32, bx: &mut Bx, run: Range, last: i64) -> Range
+pub fn dead_range(here: Place<'_>, number: u32, bx: &mut Bx, run: Range, within: Range) -> Range
     requires bx { IsBox here.game.now.vars bx.old }
     requires some { 0 < length here.rest.now }
     requires run { IsOneOf (range_at bx.old here.depth) run }
-    requires before { run.high ≤ℤ last }
-    requires last { last ≤ℤ (range_at bx.old here.depth).high }
+    requires before { run.high ≤ℤ within.high }
+    requires within { within.high ≤ℤ (range_at bx.old here.depth).high }
     requires dead { IsSomeAnd (slice_get here.game.now.urows number) (IsDead (slice_set bx.old here.depth run)) }
-    ensures run { IsSomeAnd (slice_get here.entry.game.now.urows number) (λ row. IsDeadRun row bx.old here.entry.depth run last result) }
+    ensures run { IsSomeAnd (slice_get here.entry.game.now.urows number) (λ row. IsDeadRun row bx.old here.entry.depth run within.high result) }
     ensures some { run.high ≤ℤ result.high }
+    ensures high { result.high ≤ℤ within.high }
     ensures same { bx.new ≡ bx.old }
 {
     let row = &here.game.problem().urows.as_slice()[number as usize];
-    dead_run(here, row, bx, run, last)
+    dead_run(here, row, bx, run, within)
 }
 
 /// The part of this range.
@@ -59,7 +60,7 @@ pub fn part_of(range: Range, below: Empty) -> EmptyPart
     EmptyPart { range, below }
 }
 
-/// The part of the longest run of values, at most up to `last`, over which the uncertainty row of this number is dead,
+/// The part of the longest run of values, at most up to the high end of `within`, over which the uncertainty row of this number is dead,
 /// where it is dead over the first. The box stays as it was.
 pub fn dead_part(
     alloc: Global,
@@ -67,20 +68,20 @@ pub fn dead_part(
     number: u32,
     bx: &mut Bx,
     run: Range,
-    last: i64,
+    within: Range,
 ) -> Result<EmptyPart, Memory>
     requires bx { IsBox here.game.now.vars bx.old }
     requires some { 0 < length here.rest.now }
     requires run { IsOneOf (range_at bx.old here.depth) run }
-    requires before { run.high ≤ℤ last }
-    requires last { last ≤ℤ (range_at bx.old here.depth).high }
+    requires before { run.high ≤ℤ within.high }
+    requires within { within.high ≤ℤ (range_at bx.old here.depth).high }
     requires dead { IsSomeAnd (slice_get here.game.now.urows number) (IsDead (slice_set bx.old here.depth run)) }
-    ensures part { IfOk result (IsPart here.entry.game.now (drop 1 here.entry.rest.now) here.entry.depth bx.old run.low last) }
+    ensures part { IfOk result (IsPart here.entry.game.now (drop 1 here.entry.rest.now) here.entry.depth bx.old run.low within.high) }
     ensures same { bx.new ≡ bx.old }
 {
     // that the problem is in order
     let _problem = here.game.problem();
-    let range = dead_range(here, number, bx, run, last);
+    let range = dead_range(here, number, bx, run, within);
     let below = closed_by(alloc, number)?;
     Ok(part_of(range, below))
 }

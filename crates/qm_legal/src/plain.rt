@@ -72,7 +72,7 @@ fn search_part(
     match dead_row(here.game, bx) {
         Some(number) => {
             here.put(bx, before);
-            let part = dead_part(alloc, here, number, bx, run, before.high)?;
+            let part = dead_part(alloc, here, number, bx, run, before)?;
             Ok(Some(part))
         }
         None => match search(alloc, here.behind(), bx)? {

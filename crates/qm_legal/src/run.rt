@@ -71,21 +71,21 @@ fn lower(bracket: Range, tried: Range) -> Range
     }
 }
 
-/// The longest run of values from the low end of this one on, at most up to `last`, that the row is dead over, where it
-/// is dead over this one: its high end lies in a bracket that is halved. The box stays as it was.
-pub fn dead_run(here: Place<'_>, row: &Row, bx: &mut Bx, run: Range, last: i64) -> Range
+/// The longest run of values from the low end of this one on, at most up to the high end of `within`, that the row is
+/// dead over, where it is dead over this one: its high end lies in a bracket that is halved. The box stays as it was.
+pub fn dead_run(here: Place<'_>, row: &Row, bx: &mut Bx, run: Range, within: Range) -> Range
     requires row { IsRowOver here.game.now.vars row.now }
     requires bx { IsBox here.game.now.vars bx.old }
     requires next { 0 < length here.rest.now }
     requires low { (range_at bx.old here.depth).low ≤ℤ run.low }
     requires some { run.low ≤ℤ run.high }
-    requires before { run.high ≤ℤ last }
-    requires last { last ≤ℤ (range_at bx.old here.depth).high }
+    requires before { run.high ≤ℤ within.high }
+    requires within { within.high ≤ℤ (range_at bx.old here.depth).high }
     requires dead { IsDead (slice_set bx.old here.depth run) row.now }
-    ensures run { IsDeadRun row.now bx.old here.entry.depth run last result }
+    ensures run { IsDeadRun row.now bx.old here.entry.depth run within.high result }
     ensures same { bx.new ≡ bx.old }
 {
-    let mut bracket = bracket_of(run, last);
+    let mut bracket = bracket_of(run, within);
     while bracket.low < bracket.high {
         let tried = halved(run, bracket);
         if is_dead_with(here, row, bx, tried) {
@@ -97,13 +97,13 @@ pub fn dead_run(here: Place<'_>, row: &Row, bx: &mut Bx, run: Range, last: i64) 
     run_to(run, bracket)
 }
 
-/// The bracket from the high end of the run to the last value.
-fn bracket_of(run: Range, last: i64) -> Range
-    ensures { result ≡ range_to run.high last }
+/// The bracket from the high end of the run to that of the values within which it may go on.
+fn bracket_of(run: Range, within: Range) -> Range
+    ensures { result ≡ range_to run.high within.high }
 {
     Range {
         low: run.high,
-        high: last,
+        high: within.high,
     }
 }
 

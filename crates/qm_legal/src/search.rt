@@ -1,15 +1,13 @@
-ghost use Rattle.std.specs.Prelude.{◌≡◌, ◌<◌, ◌≤ℤ◌, ◌<ℤ◌, ◌-ℤ◌, ◌++◌, Err, IfOk, drop, length, map, pos};
+ghost use Rattle.std.specs.Prelude.{◌≡◌, ◌≤ℤ◌, ◌-ℤ◌, ◌++◌, Err, IfOk, drop, length, pos};
 ghost use Rattle.qm_model.specs.declared.variable.Player.TheVariants.{All as Universal};
-ghost use Rattle.qm_model.specs.Boxes.{FollowOn};
-ghost use Rattle.qm_model.specs.Ranges.{range_at, single};
-ghost use Rattle.qm_trees.specs.EmptyJudgement.{range_of};
+ghost use Rattle.qm_model.specs.Ranges.{range_at};
 ghost use Rattle.qm_legal.specs.declared.fault.LegalFault.TheVariants as fault;
 ghost use Rattle.qm_legal.specs.SearchSteps.{IsFound, IsFoundPart, IsOneOf, SetsNext, range_to};
-ghost use Rattle.qm_legal.specs.JournalSteps.{AreFoundParts, AreShownParts, AreStepsWithin, AreUntried, Grown, IsAdded, IsEntered, IsFull, IsPartOf, IsSearched};
+ghost use Rattle.qm_legal.specs.JournalSteps.{AreFoundParts, AreShownParts, AreStepsWithin, AreUntried, Grown, IsAdded, IsAliveValue, IsEntered, IsFull, IsPartOf, IsSearched};
 
 use crate::dead::dead_row_with;
 use crate::fault::LegalFault;
-use crate::guide::first_tried;
+use crate::guide::{lower_values, upper_values};
 use crate::named::{enter, step_of};
 use crate::part::{dead_part, part_of, split};
 use crate::run::{is_left, single_at};
@@ -68,10 +66,10 @@ fn search_values(
 {
     let number = enter(journal, entry)?;
     let covered = here.range(bx);
-    let first = first_tried(guide, here.depth, covered);
-    match search_range(alloc, here, number, guide, bx, journal, upper(covered, first))? {
+    let upper = upper_values(guide, here.depth, covered);
+    match search_range(alloc, here, number, guide, bx, journal, upper)? {
         None => Ok(None),
-        Some(above) => search_others(alloc, here, number, guide, bx, journal, first, above),
+        Some(above) => search_others(alloc, here, number, guide, bx, journal, upper, above),
     }
 }
 
@@ -84,24 +82,25 @@ fn search_others(
     guide: &[Range],
     bx: &mut Bx,
     journal: &mut Journal,
-    first: i64,
+    upper: Range,
     above: Items<EmptyPart>,
 ) -> Result<Option<Empty>, LegalFault>
     requires entered { IsEntered here.game.now here.depth bx.old journal.old number }
     requires player { SetsNext Universal here.rest.now }
-    requires low { (range_at bx.old here.depth).low ≤ℤ first }
-    requires high { first ≤ℤ (range_at bx.old here.depth).high }
-    requires untried { AreUntried number (range_to (range_at bx.old here.depth).low (first -ℤ pos 1)) journal.old.entries }
-    requires above { AreShownParts here.game.now (drop 1 here.rest.now) here.depth bx.old (range_to first (range_at bx.old here.depth).high) above }
+    requires low { (range_at bx.old here.depth).low ≤ℤ upper.low }
+    requires some { upper.low ≤ℤ upper.high }
+    requires high { upper.high ≡ (range_at bx.old here.depth).high }
+    requires untried { AreUntried number (range_to (range_at bx.old here.depth).low (upper.low -ℤ pos 1)) journal.old.entries }
+    requires above { AreShownParts here.game.now (drop 1 here.rest.now) here.depth bx.old upper above }
     ensures found { IfOk result (IsFound here.entry.game.now here.entry.rest.now here.entry.depth bx.old bx.new) }
     ensures grown { Grown here.entry.game.now (AreStepsWithin number (range_at bx.old here.entry.depth) (length journal.old.entries)) journal.old journal.new }
     ensures spent { result ≡ Err fault.Spent → IsFull journal.new }
 {
     let covered = here.range(bx);
-    if covered.low == first {
+    if upper.low <= covered.low {
         return Ok(Some(split(here, above)));
     }
-    match search_range(alloc, here, number, guide, bx, journal, lower(covered, first))? {
+    match search_range(alloc, here, number, guide, bx, journal, lower_values(covered, upper))? {
         None => Ok(None),
         Some(below) => {
             let parts = joined(below, above)?;
@@ -134,7 +133,7 @@ fn search_range(
     let mut next = start(within);
     while is_left(next, within) {
         let run = single_at(next, within);
-        match search_value(alloc, here, number, guide, bx, journal, run, within.high)? {
+        match search_value(alloc, here, number, guide, bx, journal, run, within)? {
             None => return Ok(None),
             Some(part) => {
                 next = after(part.range);
@@ -145,7 +144,7 @@ fn search_range(
     Ok(Some(parts))
 }
 
-/// The part of this value alone, or of a run of values from it on, at most up to `last`; or no part, and the box with a
+/// The part of this value alone, or of a run of values from it on, at most up to the high end of the others; or no part, and the box with a
 /// play's values.
 #[cycle(search)]
 fn search_value(
@@ -156,52 +155,59 @@ fn search_value(
     bx: &mut Bx,
     journal: &mut Journal,
     run: Range,
-    last: i64,
+    within: Range,
 ) -> Result<Option<EmptyPart>, LegalFault>
     requires entered { IsEntered here.game.now here.depth bx.old journal.old number }
     requires player { SetsNext Universal here.rest.now }
     requires run { IsOneOf (range_at bx.old here.depth) run }
-    requires some { run.high ≤ℤ last }
-    requires last { last ≤ℤ (range_at bx.old here.depth).high }
+    requires some { run.high ≤ℤ within.high }
+    requires within { within.high ≤ℤ (range_at bx.old here.depth).high }
     requires untried { AreUntried number run journal.old.entries }
-    ensures found { IfOk result (IsFoundPart here.entry.game.now (drop 1 here.entry.rest.now) here.entry.depth bx.old bx.new run.low last) }
+    ensures found { IfOk result (IsFoundPart here.entry.game.now (drop 1 here.entry.rest.now) here.entry.depth bx.old bx.new run.low within.high) }
     ensures grown { Grown here.entry.game.now (AreStepsWithin number run (length journal.old.entries)) journal.old journal.new }
     ensures spent { result ≡ Err fault.Spent → IsFull journal.new }
 {
-    if let Some(row) = dead_row_with(here, bx, run) {
-        let part = dead_part(alloc, here, row, bx, run, last)?;
-        return Ok(Some(part));
+    match dead_row_with(here, bx, run) {
+        Some(row) => {
+            let part = dead_part(alloc, here, row, bx, run, within)?;
+            Ok(Some(part))
+        }
+        None => search_below(alloc, here, number, guide, bx, journal, run, within),
     }
+}
+
+/// The same of a value over which no uncertainty row is dead.
+#[cycle(search)]
+fn search_below(
+    alloc: Global,
+    here: Place<'_>,
+    number: u32,
+    guide: &[Range],
+    bx: &mut Bx,
+    journal: &mut Journal,
+    run: Range,
+    within: Range,
+) -> Result<Option<EmptyPart>, LegalFault>
+    requires entered { IsEntered here.game.now here.depth bx.old journal.old number }
+    requires player { SetsNext Universal here.rest.now }
+    requires value { IsAliveValue here.game.now here.depth bx.old run }
+    requires some { run.high ≤ℤ within.high }
+    requires untried { AreUntried number run journal.old.entries }
+    ensures found { IfOk result (IsFoundPart here.entry.game.now (drop 1 here.entry.rest.now) here.entry.depth bx.old bx.new run.low within.high) }
+    ensures grown { Grown here.entry.game.now (AreStepsWithin number run (length journal.old.entries)) journal.old journal.new }
+    ensures spent { result ≡ Err fault.Spent → IsFull journal.new }
+{
+    // that the problem is in order
+    let _problem = here.game.problem();
     let before = here.range(bx);
     here.put(bx, run);
-    let step = step_of(number, run.low);
+    let step = step_of(number, run);
     match search(alloc, here.behind(), Some(step), guide, bx, journal)? {
         None => Ok(None),
         Some(below) => {
             here.put(bx, before);
             Ok(Some(part_of(run, below)))
         }
-    }
-}
-
-/// The values of the range from this one on.
-fn upper(covered: Range, first: i64) -> Range
-    ensures { result ≡ range_to first covered.high }
-{
-    Range {
-        low: first,
-        high: covered.high,
-    }
-}
-
-/// The values of the range before this one.
-fn lower(covered: Range, first: i64) -> Range
-    requires { covered.low <ℤ first }
-    ensures { result ≡ range_to covered.low (first -ℤ pos 1) }
-{
-    Range {
-        low: covered.low,
-        high: first - 1,
     }
 }
 

@@ -11,7 +11,7 @@ use crate::walk::best;
 use qm_certfile::Certificate;
 use qm_game::{Game, Place, whole_box};
 use qm_io::{List, Memory};
-use qm_legal::{Legality, legal};
+use qm_legal::{Legality, complete};
 use std::alloc::Global;
 
 /// The certificate of an outcome over the whole box, with a universal play.
@@ -46,7 +46,7 @@ pub fn solve(alloc: Global, game: &Game) -> Result<Certificate, Memory>
     // that the problem is in order
     let _problem = game.problem();
     let mut bx = whole_box(alloc, game)?;
-    match legal(alloc, game, 0, &bx)? {
+    match complete(alloc, game, 0, &bx)? {
         Legality::Illegal(tree) => Ok(Certificate::Empty(tree)),
         Legality::Completion(play) => {
             let outcome = best(alloc, Place::at(game, 0), &mut bx, play.as_slice())?;

@@ -65,8 +65,8 @@ search_part-dead_part-requires-clause-dead t c =
 pub search_part-dead_part-requires-clause-before : goal.search_part-dead_part-requires-clause-before
 search_part-dead_part-requires-clause-before t c = rw c.range-before.ensures c.requires.run.high
 
-pub search_part-dead_part-requires-clause-last : goal.search_part-dead_part-requires-clause-last
-search_part-dead_part-requires-clause-last t c =
+pub search_part-dead_part-requires-clause-within : goal.search_part-dead_part-requires-clause-within
+search_part-dead_part-requires-clause-within t c =
     let back = put_back c.args.bx.now c.put.new.bx c.put.new.bx c.put-in-Some.new.bx c.args.here.depth c.args.run c.range-before.result
     c.put.ensures refl c.put-in-Some.ensures c.range-before.ensures in
     rw (back, c.range-before.ensures) (omega (arith, ints))

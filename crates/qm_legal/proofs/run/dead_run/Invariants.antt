@@ -8,9 +8,9 @@ invariant-loop-bracket l = record {
   same : l.bx ≡ l.fn.bx;
   from : l.run.high ≤ℤ l.bracket.low;
   some : l.bracket.low ≤ℤ l.bracket.high;
-  high : l.bracket.high ≤ℤ l.last;
+  high : l.bracket.high ≤ℤ l.fn.within.high;
   dead : IsDead (slice_set l.fn.bx l.here.depth (range_to l.run.low l.bracket.low)) l.row;
-  longest : (v : ℤ) → l.bracket.high <ℤ v → v ≤ℤ l.last → IsDead (slice_set l.fn.bx l.here.depth (range_to l.run.low v)) l.row → ⊥;
+  longest : (v : ℤ) → l.bracket.high <ℤ v → v ≤ℤ l.fn.within.high → IsDead (slice_set l.fn.bx l.here.depth (range_to l.run.low v)) l.row → ⊥;
 }
 
 abbrev pub decreases-loop-bracket : goal.decreases-loop-bracket

@@ -16,10 +16,10 @@ returns-then-some_universal_empty c =
     let some = rw (wholes, c.as_slice.ensures) at c.some_universal_empty.ensures in
     empty_shows c.args.here.game.now c.args.here.rest.now c.args.here.depth c.args.bx.now c.closed_by_range.result (sym some ∙ c.if-some_universal_empty.true) c.closed_by_range.ensures
 
-pub returns-in-Some : goal.returns-in-Some
-returns-in-Some c =
+pub returns-in_ok-closed_by-in-Some : goal.returns-in_ok-closed_by-in-Some
+returns-in_ok-closed_by-in-Some c =
     let sound = rw c.problem-problem.ensures.value at c.problem-problem.ensures.sound in
-    dead_shows c.args.here.game.now c.args.here.rest.now c.args.here.depth c.args.bx.now c.in_ok-closed_by.field-0 c.in-Some.number sound c.requires.box c.in-Some.ensures.has c.in_ok-closed_by.ensures
+    dead_shows c.args.here.game.now c.args.here.rest.now c.args.here.depth c.args.bx.now c.in_ok-closed_by-in-Some.field-0 c.in-Some.number sound c.requires.box c.in-Some.ensures.has c.in_ok-closed_by-in-Some.ensures
 
 pub returns-in-None : goal.returns-in-None
 returns-in-None c =
