@@ -38,10 +38,12 @@ within_with (x ∷ xs) [] v turn before play = ((rw (is_for_all x turn) at play)
     nothing : (xs : List Var) → BeginWithin xs []
     nothing [] = tt
     nothing (x ∷ xs) = tt
-within_with (x ∷ xs) (p ∷ prefix) v turn before play =
-    (before.0, by_player x (BeginWithin xs (prefix ++ v ∷ []))
-    (λ existential. within_with xs prefix v turn before.1 (rw (not_universal x existential) at play))
-    (λ universal. within_with xs prefix v turn before.1 (rw (is_for_all x universal) at play).1))
+within_with (x ∷ xs) (p ∷ prefix) v turn before play = (
+  before.0,
+  by_player x (BeginWithin xs (prefix ++ v ∷ []))
+      (λ existential. within_with xs prefix v turn before.1 (rw (not_universal x existential) at play))
+      (λ universal. within_with xs prefix v turn before.1 (rw (is_for_all x universal) at play).1),
+)
 
 query_of_game : (J : List JEntry) (n : ℕ) → IsParent Game J n → IsParent Query J n
 query_of_game J zero h = tt

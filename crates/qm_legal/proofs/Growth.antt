@@ -131,7 +131,7 @@ module _ (P : Problem) where
     grown_entry entry K here same =
         let e = entered entry here in
         let none : Grown P (AreStepsWithin (number_after entry J) (single (pos 0)) (length (with_entry entry J).entries)) (with_entry entry J) K =
-            grown_same (AreStepsWithin (number_after entry J) (single (pos 0)) (length (with_entry entry J).entries)) (with_entry entry J) K (All-nil (IsStepWithin (number_after entry J) (single (pos 0)) (length (with_entry entry J).entries))) e.lawful same in
+        grown_same (AreStepsWithin (number_after entry J) (single (pos 0)) (length (with_entry entry J).entries)) (with_entry entry J) K (All-nil (IsStepWithin (number_after entry J) (single (pos 0)) (length (with_entry entry J).entries))) e.lawful same in
         grown_entered entry (single (pos 0)) K none
 
   -- what a step for a value adds is of that value

@@ -64,7 +64,7 @@ least_product-less (negsuc n) low m v h = neg_times n m v h
 pub dead_less : (row : Row) (bx : List Range) (depth : ℕ) (low m v : ℤ) → m ≤ℤ v → IsDead (set bx depth (range_to low v)) row → IsDead (set bx depth (range_to low m)) row
 dead_less row bx depth low m v h dead =
     let le = sum_from-set-le (λ var (r : Range). least_product (coefficient row.terms var) r.low r.high) 0 bx depth (range_to low v) (range_to low m)
-        (least_product-less (coefficient row.terms (0 + depth)) low m v h) in
+    (least_product-less (coefficient row.terms (0 + depth)) low m v h) in
     less row.right (least_value row.terms (set bx depth (range_to low v))) (least_value row.terms (set bx depth (range_to low m))) le dead
   where
     less : (right a b : ℤ) → a ≤ℤ b → right <ℤ a → right <ℤ b

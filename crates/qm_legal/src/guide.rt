@@ -1,4 +1,4 @@
-ghost use Rattle.std.specs.Prelude.{◌≡◌, ◌≤ℤ◌, ◌<ℤ◌, ◌-ℤ◌, pos};
+ghost use Rattle.std.specs.Prelude.{◌≡◌, ◌≤ℤ◌, ◌<ℤ◌, ◌-ℤ◌, int_le, pos};
 ghost use Rattle.qm_model.specs.Boxes.{IsBox};
 ghost use Rattle.qm_legal.specs.SearchSteps.{range_to};
 
@@ -33,6 +33,13 @@ pub fn upper_values(guide: &[Range], at: usize, covered: Range) -> Range
         },
         _ => covered,
     }
+}
+
+/// Whether these upper values are all of the range.
+pub fn are_all(covered: Range, upper: Range) -> bool
+    ensures { result ≡ int_le upper.low covered.low }
+{
+    upper.low <= covered.low
 }
 
 /// The values of the range before these upper ones.

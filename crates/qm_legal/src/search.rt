@@ -7,7 +7,7 @@ ghost use Rattle.qm_legal.specs.JournalSteps.{AreFoundParts, AreShownParts, AreS
 
 use crate::dead::dead_row_with;
 use crate::fault::LegalFault;
-use crate::guide::{lower_values, upper_values};
+use crate::guide::{are_all, lower_values, upper_values};
 use crate::named::{enter, step_of};
 use crate::part::{dead_part, part_of, split};
 use crate::run::{is_left, single_at};
@@ -97,10 +97,18 @@ fn search_others(
     ensures spent { result ≡ Err fault.Spent → IsFull journal.new }
 {
     let covered = here.range(bx);
-    if upper.low <= covered.low {
+    if are_all(covered, upper) {
         return Ok(Some(split(here, above)));
     }
-    match search_range(alloc, here, number, guide, bx, journal, lower_values(covered, upper))? {
+    match search_range(
+        alloc,
+        here,
+        number,
+        guide,
+        bx,
+        journal,
+        lower_values(covered, upper),
+    )? {
         None => Ok(None),
         Some(below) => {
             let parts = joined(below, above)?;

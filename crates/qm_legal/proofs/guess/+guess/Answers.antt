@@ -15,9 +15,10 @@ guess-returns-in-None-clause-restricted t c = λ no. absurd (let e : true ≡ fa
 
 pub guess-guess-requires : goal.guess-guess-requires
 guess-guess-requires t c =
-    let other = sets_next Exists c.args.here.rest.now c.in-Some.var.now c.in-Some._later.now c.in-Some.ensures.cases.0 (exists_of c.in-Some.var.now (sym c.is_for_all.ensures ∙ c.if-is_for_all.false)) in
-    (omega (arith, some_next Exists c.args.here.rest.now other, ap length c.behind.ensures.rest, length-drop 1 c.args.here.rest.now),
-    rw (c.behind.ensures.game, c.behind.ensures.depth) (open_behind c.args.here.game.now c.args.here.depth c.args.bx.now c.args.here.rest.now c.args.here.from_depth other c.requires))
+    let other = sets_next Exists c.args.here.rest.now c.in-Some.var.now c.in-Some._later.now c.in-Some.ensures.cases.0 (exists_of c.in-Some.var.now (sym c.is_for_all.ensures ∙ c.if-is_for_all.false)) in (
+      omega (arith, some_next Exists c.args.here.rest.now other, ap length c.behind.ensures.rest, length-drop 1 c.args.here.rest.now),
+      rw (c.behind.ensures.game, c.behind.ensures.depth) (open_behind c.args.here.game.now c.args.here.depth c.args.bx.now c.args.here.rest.now c.args.here.from_depth other c.requires),
+    )
 
 pub guess-returns-else-is_for_all-clause-guessed : goal.guess-returns-else-is_for_all-clause-guessed
 guess-returns-else-is_for_all-clause-guessed t c =
@@ -33,10 +34,11 @@ guess_value-put-requires-clause-bx t c = rw c.first_alive.ensures.same c.require
 pub guess_value-guess-requires : goal.guess_value-guess-requires
 guess_value-guess-requires t c =
     let alive = c.in-Some.ensures.first in
-    let some = some_next Universal c.args.here.rest.now c.requires.player in
-    (omega (arith, some, ap length c.behind.ensures.rest, length-drop 1 c.args.here.rest.now),
-    rw (c.put.ensures, c.first_alive.ensures.same, c.behind.ensures.game, c.behind.ensures.depth)
-    (open_behind_value c.args.here.game.now c.args.here.depth c.args.bx.now c.args.here.rest.now c.args.here.from_depth c.requires.player c.in-Some.run' alive.one alive.alive c.requires.bx))
+    let some = some_next Universal c.args.here.rest.now c.requires.player in (
+      omega (arith, some, ap length c.behind.ensures.rest, length-drop 1 c.args.here.rest.now),
+      rw (c.put.ensures, c.first_alive.ensures.same, c.behind.ensures.game, c.behind.ensures.depth)
+          (open_behind_value c.args.here.game.now c.args.here.depth c.args.bx.now c.args.here.rest.now c.args.here.from_depth c.requires.player c.in-Some.run' alive.one alive.alive c.requires.bx),
+    )
 
 pub guess_value-returns-in-None-clause-guessed : goal.guess_value-returns-in-None-clause-guessed
 guess_value-returns-in-None-clause-guessed t c = λ yes. absurd (let e : false ≡ true = yes in cc)

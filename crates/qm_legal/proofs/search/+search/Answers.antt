@@ -34,11 +34,12 @@ search-returns-in-None-clause-grown t c = grown_none c.args.here.game.now (IsAdd
 pub search-search-requires : goal.search-search-requires
 search-search-requires t c =
     let P = c.args.here.game.now in
-    let other = sets_next Exists c.args.here.rest.now c.in-Some.var.now c.in-Some._later.now c.in-Some.ensures.cases.0 (exists_of c.in-Some.var.now (sym c.is_for_all.ensures ∙ c.if-is_for_all.false)) in
-    (omega (arith, some_next Exists c.args.here.rest.now other, ap length c.behind.ensures.rest, length-drop 1 c.args.here.rest.now),
-    rw (c.behind.ensures.game, c.behind.ensures.depth) (searched_behind P c.args.here.depth c.args.bx.now c.args.journal.now c.args.entry
-    (open_behind P c.args.here.depth c.args.bx.now c.args.here.rest.now c.args.here.from_depth other c.requires.box)
-    (values_other P c.args.here.depth c.args.bx.now c.args.here.rest.now c.args.here.from_depth other c.requires.box) c.requires))
+    let other = sets_next Exists c.args.here.rest.now c.in-Some.var.now c.in-Some._later.now c.in-Some.ensures.cases.0 (exists_of c.in-Some.var.now (sym c.is_for_all.ensures ∙ c.if-is_for_all.false)) in (
+      omega (arith, some_next Exists c.args.here.rest.now other, ap length c.behind.ensures.rest, length-drop 1 c.args.here.rest.now),
+      rw (c.behind.ensures.game, c.behind.ensures.depth) (searched_behind P c.args.here.depth c.args.bx.now c.args.journal.now c.args.entry
+          (open_behind P c.args.here.depth c.args.bx.now c.args.here.rest.now c.args.here.from_depth other c.requires.box)
+          (values_other P c.args.here.depth c.args.bx.now c.args.here.rest.now c.args.here.from_depth other c.requires.box) c.requires),
+    )
 
 pub search-returns-else-is_for_all-clause-found : goal.search-returns-else-is_for_all-clause-found
 search-returns-else-is_for_all-clause-found t c =
@@ -60,11 +61,10 @@ search_values-upper_values-upper-requires t c =
     filled_as c.range-covered.result (range_at c.args.bx.now c.args.here.depth) c.range-covered.ensures (filled c.args.here.game.now c.args.here.depth c.args.bx.now c.args.here.rest.now c.args.here.from_depth c.requires.player c.requires.searched.box)
 
 pub search_values-search_range-requires : goal.search_values-search_range-requires
-search_values-search_range-requires t c =
-    (
-      omega (arith, some_next Universal c.args.here.rest.now c.requires.player),
-      (rw (c.in_ok-number.ensures.number, c.in_ok-number.ensures.entered) (entered c.args.here.game.now c.args.here.depth c.args.bx.now c.args.journal.now c.args.entry c.requires.searched), (c.requires.player, (c.upper_values-upper.ensures.some, (upper_part c.upper_values-upper.result c.range-covered.result (range_at c.args.bx.now c.args.here.depth) c.range-covered.ensures c.upper_values-upper.ensures.low c.upper_values-upper.ensures.high, rw (c.in_ok-number.ensures.number, c.in_ok-number.ensures.entered) (entered_untried c.args.here.game.now c.args.here.depth c.args.bx.now c.args.journal.now c.args.entry c.upper_values-upper.result c.requires.searched))))),
-    )
+search_values-search_range-requires t c = (
+  omega (arith, some_next Universal c.args.here.rest.now c.requires.player),
+  (rw (c.in_ok-number.ensures.number, c.in_ok-number.ensures.entered) (entered c.args.here.game.now c.args.here.depth c.args.bx.now c.args.journal.now c.args.entry c.requires.searched), (c.requires.player, (c.upper_values-upper.ensures.some, (upper_part c.upper_values-upper.result c.range-covered.result (range_at c.args.bx.now c.args.here.depth) c.range-covered.ensures c.upper_values-upper.ensures.low c.upper_values-upper.ensures.high, rw (c.in_ok-number.ensures.number, c.in_ok-number.ensures.entered) (entered_untried c.args.here.game.now c.args.here.depth c.args.bx.now c.args.journal.now c.args.entry c.upper_values-upper.result c.requires.searched))))),
+)
 
 pub search_values-returns-in_err-search_range-clause-grown : goal.search_values-returns-in_err-search_range-clause-grown
 search_values-returns-in_err-search_range-clause-grown t c =
@@ -94,8 +94,7 @@ search_values-search_others-requires t c =
     let L = c.search_range.new.journal in
     let others = range_to r.low (c.upper_values-upper.result.low -ℤ pos 1) in
     let stays = entered_stays c.args.here.game.now c.args.here.depth c.args.bx.now n K L (AreStepsWithin n c.upper_values-upper.result (length K.entries)) here g' in
-    let untried = untried_stays c.args.here.game.now c.args.here.depth c.args.bx.now n K L c.upper_values-upper.result others (inl (below_it c.upper_values-upper.result.low)) (IsParent-within Step K.entries n here.parent) (entered_untried c.args.here.game.now c.args.here.depth c.args.bx.now c.args.journal.now c.args.entry others c.requires.searched) g' in
-    (
+    let untried = untried_stays c.args.here.game.now c.args.here.depth c.args.bx.now n K L c.upper_values-upper.result others (inl (below_it c.upper_values-upper.result.low)) (IsParent-within Step K.entries n here.parent) (entered_untried c.args.here.game.now c.args.here.depth c.args.bx.now c.args.journal.now c.args.entry others c.requires.searched) g' in (
       omega (arith, some_next Universal c.args.here.rest.now c.requires.player),
       (rw (found.1, c.in_ok-number.ensures.number) stays, (c.requires.player, (rw found.1 low, (c.upper_values-upper.ensures.some, (rw found.1 high, (rw (found.1, c.in_ok-number.ensures.number) untried, rw found.1 found.0)))))),
     )
@@ -120,22 +119,24 @@ search_values-returns-in-Some-clause-grown t c =
 
 -- ---- the values below the first that were tried
 
-pub search_others-returns-then-upper-covered-clause-found : goal.search_others-returns-then-upper-covered-clause-found
-search_others-returns-then-upper-covered-clause-found t c =
+pub search_others-returns-then-are_all-clause-found : goal.search_others-returns-then-are_all-clause-found
+search_others-returns-then-are_all-clause-found t c =
     let r = range_at c.args.bx.now c.args.here.depth in
-    let low = one_low c.range-covered.result c.args.upper r c.range-covered.ensures c.requires.low c.if-upper-covered.true in
+    let low = one_low c.range-covered.result c.args.upper r c.range-covered.ensures c.requires.low (le_of_test c.args.upper.low c.range-covered.result.low (sym c.are_all.ensures ∙ c.if-are_all.true)) in
     let shown = shown_as c.args.here.game.now (drop 1 c.args.here.rest.now) c.args.here.depth c.args.bx.now c.args.upper r c.args.above low c.requires.high c.requires.above in
     rw c.split.ensures (split_shown c.args.here.game.now c.args.here.rest.now c.args.here.depth c.args.bx.now c.args.above c.args.bx.now c.requires.player (filled c.args.here.game.now c.args.here.depth c.args.bx.now c.args.here.rest.now c.args.here.from_depth c.requires.player c.requires.entered.box) shown refl)
 
-pub search_others-returns-then-upper-covered-clause-grown : goal.search_others-returns-then-upper-covered-clause-grown
-search_others-returns-then-upper-covered-clause-grown t c =
+pub search_others-returns-then-are_all-clause-grown : goal.search_others-returns-then-are_all-clause-grown
+search_others-returns-then-are_all-clause-grown t c =
     grown_none c.args.here.game.now (AreStepsWithin c.args.number (range_at c.args.bx.now c.args.here.depth) (length c.args.journal.now.entries)) c.args.journal.now (All-nil (IsStepWithin c.args.number (range_at c.args.bx.now c.args.here.depth) (length c.args.journal.now.entries))) c.requires.entered.lawful
+
+pub search_others-lower_values-requires : goal.search_others-lower_values-requires
+search_others-lower_values-requires t c = past_of_test c.args.upper.low c.range-covered.result.low (sym c.are_all.ensures ∙ c.if-are_all.false)
 
 pub search_others-search_range-requires : goal.search_others-search_range-requires
 search_others-search_range-requires t c =
-    let low = lower_some c.range-covered.result.low c.args.upper.low c.if-upper-covered.false in
-    let r = range_at c.args.bx.now c.args.here.depth in
-    (
+    let low = lower_some c.range-covered.result.low c.args.upper.low (past_of_test c.args.upper.low c.range-covered.result.low (sym c.are_all.ensures ∙ c.if-are_all.false)) in
+    let r = range_at c.args.bx.now c.args.here.depth in (
       omega (arith, some_next Universal c.args.here.rest.now c.requires.player),
       (c.requires.entered, (c.requires.player, (rw c.lower_values.ensures low, (rw (c.lower_values.ensures, c.range-covered.ensures) (lower_part r c.args.upper c.requires.some c.requires.high), rw (c.lower_values.ensures, c.range-covered.ensures) c.requires.untried)))),
     )
@@ -200,8 +201,7 @@ search_range-search_value-requires t c =
     let left = le_of_test next c.args.within.high (sym c.is_left.ensures ∙ c.loop-alloc-test.true) in
     let r = range_at c.args.bx.now c.args.here.depth in
     let run = c.single_at-run.result in
-    let stays = entered_stays c.args.here.game.now c.args.here.depth c.args.bx.now c.args.number c.args.journal.now c.loop-alloc.journal (AreStepsWithin c.args.number c.args.within (length c.args.journal.now.entries)) c.requires.entered before.grown in
-    (
+    let stays = entered_stays c.args.here.game.now c.args.here.depth c.args.bx.now c.args.number c.args.journal.now c.loop-alloc.journal (AreStepsWithin c.args.number c.args.within (length c.args.journal.now.entries)) c.requires.entered before.grown in (
       omega (arith, some_next Universal c.args.here.rest.now c.requires.player),
       (rw before.same stays, (c.requires.player, (rw before.same (one_within r c.args.within next run c.requires.within before.reached.from left c.single_at-run.ensures), (rw c.single_at-run.ensures left, (rw before.same c.requires.within.high, rw c.single_at-run.ensures (untried_less c.args.number (range_to next c.args.within.high) (single next) c.loop-alloc.journal.entries (le_itself next) left before.untried)))))),
     )
@@ -308,11 +308,10 @@ search_value-dead_part-requires-clause-dead t c =
     rw c.dead_row_with.ensures.same c.in-Some.ensures.row.has
 
 pub search_value-search_below-requires : goal.search_value-search_below-requires
-search_value-search_below-requires t c =
-    (
-      omega (arith, some_next Universal c.args.here.rest.now c.requires.player),
-      (rw c.dead_row_with.ensures.same c.requires.entered, (c.requires.player, (rw c.dead_row_with.ensures.same (alive_value c.args.here.game.now c.args.here.depth c.args.bx.now c.args.run c.requires.run c.in-None.ensures.row), (c.requires.some, c.requires.untried)))),
-    )
+search_value-search_below-requires t c = (
+  omega (arith, some_next Universal c.args.here.rest.now c.requires.player),
+  (rw c.dead_row_with.ensures.same c.requires.entered, (c.requires.player, (rw c.dead_row_with.ensures.same (alive_value c.args.here.game.now c.args.here.depth c.args.bx.now c.args.run c.requires.run c.in-None.ensures.row), (c.requires.some, c.requires.untried)))),
+)
 
 pub search_value-returns-in_err-part-in-Some-clause-grown : goal.search_value-returns-in_err-part-in-Some-clause-grown
 search_value-returns-in_err-part-in-Some-clause-grown t c =
@@ -343,8 +342,7 @@ search_below-search-requires t c =
     let some = some_next Universal c.args.here.rest.now c.requires.player in
     let box = open_behind_value c.args.here.game.now c.args.here.depth c.args.bx.now c.args.here.rest.now c.args.here.from_depth c.requires.player c.args.run c.requires.value.one c.requires.value.alive c.requires.entered.box in
     let play = alive_play c.args.here.game.now sound (c.args.here.depth + 1) bx' box in
-    let values = values_next c.args.here.game.now c.args.here.depth c.args.bx.now c.args.here.rest.now c.args.here.from_depth c.requires.player c.args.run c.requires.entered.box in
-    (
+    let values = values_next c.args.here.game.now c.args.here.depth c.args.bx.now c.args.here.rest.now c.args.here.from_depth c.requires.player c.args.run c.requires.entered.box in (
       omega (arith, some, ap length c.behind.ensures.rest, length-drop 1 c.args.here.rest.now),
       rw (c.step_of-step.ensures, c.put.ensures, c.behind.ensures.game, c.behind.ensures.depth)
           (stands_below c.args.here.game.now c.args.here.depth c.args.bx.now c.args.number c.args.run c.args.journal.now c.requires.entered c.requires.untried c.requires.value.one.single box play values),
