@@ -97,7 +97,7 @@ fn answer_over(
         Question::Combination => combination_line(alloc, game, cuts, &bx, rest),
         Question::Empty => empty_line(alloc, game, bx, rest),
         Question::Legal => legal_line(alloc, game, bx, rest),
-        Question::Asked => asked_line(alloc, game, bx, rest),
+        Question::Asked => asked_line(alloc, game, rest),
         Question::Policy => policy_line(alloc, game, bx, rest),
         Question::Refute => refutation_line(alloc, game, cuts, bx, rest),
         Question::Solve => solve_line(alloc, game),

@@ -1,34 +1,59 @@
+ghost use Rattle.std.specs.Prelude.{[], ◌≤◌};
+ghost use Rattle.qm_legal.specs.Queries.{IsQueryOf};
+
 use crate::words::number_words;
-use qm_combo::test_empty;
-use qm_game::{Bx, Game, Player, row_dead};
-use qm_io::List;
-use qm_journal::{JKind, Journal};
+use qm_game::{Bx, Game, whole_box};
+use qm_journal::{JEntry, JKind, Journal};
 use qm_legal::{LegalFault, Legality, NamedPrefix, legal};
-use qm_model::single;
 use std::alloc::{AllocError, Global};
 
-struct Walk<'a> {
-    game: &'a Game,
-    journal: Journal,
-    bx: Bx,
-    out: String,
+/// Whether the empty prefix is legal, asked with a journal of at most so many entries: the values of a play or that there
+/// is none, or the fault, and the entries that were made.
+pub fn asked_line(alloc: Global, game: &Game, limit: &str) -> Result<String, AllocError> {
+    match limit.parse::<u64>() {
+        Ok(limit) if 1 <= limit && limit <= 50_000_000 => match whole_box(alloc, game) {
+            Ok(bx) => asked_within(alloc, game, &bx, limit),
+            Err(_) => String::from_str(alloc, "memory"),
+        },
+        _ => String::from_str(alloc, "?"),
+    }
 }
 
-/// Asks whether the empty prefix is legal, and then each value of the universal player behind each legal prefix.
-pub fn asked_line(alloc: Global, game: &Game, bx: Bx, limit: &str) -> Result<String, AllocError> {
-    let limit = limit.parse::<u64>().unwrap_or(1);
-    let mut walk = Walk {
-        game,
-        journal: Journal::new(alloc, limit),
-        bx,
-        out: String::new(alloc),
+fn asked_within(alloc: Global, game: &Game, bx: &Bx, limit: u64) -> Result<String, AllocError>
+    requires some { 1 ≤ limit }
+    requires few { limit ≤ 50000000 }
+    requires bx { IsQueryOf game.now [] bx.now }
+{
+    let named = NamedPrefix {
+        parent: 0,
+        value: None,
     };
-    let named = NamedPrefix { parent: 0, value: None };
-    if ask(alloc, &mut walk, named)? {
-        visit(alloc, &mut walk, 0, 0)?;
+    let mut journal = Journal::new(alloc, limit);
+    let answer = legal(alloc, game, bx, named, &mut journal);
+    let answer = answer_words(alloc, answer)?;
+    let entries = entry_words(alloc, journal.entries())?;
+    format!(in alloc; "{answer} by{entries}")
+}
+
+fn answer_words(
+    alloc: Global,
+    answer: Result<Legality, LegalFault>,
+) -> Result<String, AllocError> {
+    match answer {
+        Ok(Legality::Completion(values)) => {
+            let values = number_words(alloc, values.as_slice())?;
+            format!(in alloc; "completion{values}")
+        }
+        Ok(Legality::Illegal(_)) => String::from_str(alloc, "illegal"),
+        Err(LegalFault::Spent) => String::from_str(alloc, "spent"),
+        Err(LegalFault::Memory) => String::from_str(alloc, "memory"),
     }
-    walk.out.push_str(" :")?;
-    for entry in walk.journal.entries() {
+}
+
+// The entries, each behind a blank, as in the report of a spent budget.
+fn entry_words(alloc: Global, entries: &[JEntry]) -> Result<String, AllocError> {
+    let mut out = String::new(alloc);
+    for entry in entries {
         let kind = match entry.kind {
             JKind::Game => "g",
             JKind::Query => "q",
@@ -37,62 +62,7 @@ pub fn asked_line(alloc: Global, game: &Game, bx: Bx, limit: &str) -> Result<Str
         let parent = entry.parent;
         let value = entry.value;
         let word = format!(in alloc; " {kind} {parent} {value}")?;
-        walk.out.push_str(word.as_str())?;
+        out.push_str(word.as_str())?;
     }
-    Ok(walk.out)
-}
-
-fn ask(alloc: Global, walk: &mut Walk<'_>, named: NamedPrefix) -> Result<bool, AllocError> {
-    match legal(alloc, walk.game, &walk.bx, named, &mut walk.journal) {
-        Ok(Legality::Completion(values)) => {
-            walk.out.push_str(" c")?;
-            let words = number_words(alloc, values.as_slice())?;
-            walk.out.push_str(words.as_str())?;
-            Ok(true)
-        }
-        Ok(Legality::Illegal(tree)) => {
-            match test_empty(walk.game, &mut walk.bx, &tree) {
-                Ok(true) => walk.out.push_str(" x")?,
-                _ => walk.out.push_str(" wrong")?,
-            }
-            Ok(false)
-        }
-        Err(LegalFault::Spent) => {
-            walk.out.push_str(" spent")?;
-            Ok(false)
-        }
-        Err(LegalFault::Memory) => {
-            walk.out.push_str(" memory")?;
-            Ok(false)
-        }
-    }
-}
-
-fn visit(alloc: Global, walk: &mut Walk<'_>, number: u32, depth: usize) -> Result<(), AllocError> {
-    let problem = walk.game.problem();
-    if depth >= problem.wholes as usize {
-        return Ok(());
-    }
-    let var = &problem.vars.as_slice()[depth];
-    let universal = match var.player {
-        Player::All => true,
-        Player::Exists => false,
-    };
-    let low = var.low;
-    let high = var.high;
-    let before = walk.bx.as_slice()[depth];
-    for value in low..high + 1 {
-        walk.bx.set(depth, single(value));
-        let mut go_on = true;
-        if universal {
-            go_on = ask(alloc, walk, NamedPrefix { parent: number, value: Some(value) })?;
-        }
-        if go_on && depth + 1 < problem.wholes as usize && row_dead(walk.game, &walk.bx).is_none() {
-            if let Ok(next) = walk.journal.enter(JKind::Game, number, value) {
-                visit(alloc, walk, next, depth + 1)?;
-            }
-        }
-    }
-    walk.bx.set(depth, before);
-    Ok(())
+    Ok(out)
 }

@@ -1,5 +1,5 @@
 -- The values that are set in a box are values of the first universal variables, whose own box is alive where this one is.
-use Rattle.std.proofs.Common.{◌≡◌, refl, sym, ap, subst, ◌∙◌, ℕ, zero, suc, ◌<◌, Bool, true, false, List, [], ◌∷◌, ◌++◌, length, get_or, take, drop, map, All, arith, ℤ, pos, ◌≤ℤ◌, ◌<ℤ◌}
+use Rattle.std.proofs.Common.{◌≡◌, refl, sym, ap, subst, ◌∙◌, ℕ, zero, suc, ◌<◌, Bool, true, false, List, [], ◌∷◌, ◌++◌, length, get_or, take, drop, All, arith, ℤ, pos, ◌<ℤ◌}
 use Rattle.std.specs.Prelude.{filter, if◌then◌else◌}
 use Rattle.std.proofs.Math.IntN.{zero-*ℤ}
 use Rattle.std.proofs.lemmas.Int.{ints}
@@ -9,10 +9,9 @@ use Rattle.qm_math.proofs.Sums.{sum_of_each-same}
 use Rattle.qm_model.specs.declared.range.Range.{Range}
 use Rattle.qm_model.specs.declared.row.Row.{Row}
 use Rattle.qm_model.specs.declared.row.Term.{Term}
-use Rattle.qm_model.specs.declared.variable.Player.TheVariants.{Exists, All as Universal}
 use Rattle.qm_model.specs.declared.variable.Var.{Var}
 use Rattle.qm_model.specs.declared.game.Problem.{Problem}
-use Rattle.qm_model.specs.Boxes.{IsBox, IsDead, bounds_of, least_value, whole_box_of}
+use Rattle.qm_model.specs.Boxes.{IsBox, bounds_of, least_value, whole_box_of}
 use Rattle.qm_model.specs.Linear.{HasVarsBelow}
 use Rattle.qm_model.specs.Plays.{BeginWithin, is_universal, whole_vars}
 use Rattle.qm_model.specs.Ranges.{single}
@@ -21,7 +20,6 @@ use Rattle.qm_model.proofs.BoxLaws.{IsBox-length}
 use Rattle.qm_model.proofs.Forms.{sum_over-each}
 use Rattle.qm_model.proofs.Players.{by_player, is_for_all, not_universal, universal_of}
 use Rattle.qm_model.proofs.UncertaintyRows.{IsUniversalAt, universal_at_take, universal_is_whole}
-use Rattle.qm_game.specs.First.{HasNone}
 use Rattle.qm_journal.specs.Lawful.{IsAlivePlay, play_box}
 use Rattle.qm_legal.specs.Queries.{AreFree, AreSet, set_values}
 use Rattle.qm_legal.specs.JournalSteps.{IsOpenBox}

@@ -1,20 +1,20 @@
 -- Where the search begins for a question, and what its answer adds.
-use Rattle.std.proofs.Common.{◌≡◌, refl, sym, ap, subst, ◌∙◌, ℕ, zero, suc, ◌+◌, ◌-◌, ◌<◌, ◌≤◌, Bool, true, false, List, [], ◌∷◌, ◌++◌, length, length-append, arith, ℤ, Option, Some, None, IsTrue}
-use Rattle.std.specs.Prelude.{IsSomeAnd, filter, slice_get, if◌then◌else◌}
+use Rattle.std.proofs.Common.{◌≡◌, refl, sym, ap, subst, ◌∙◌, ℕ, zero, suc, ◌+◌, ◌-◌, ◌<◌, true, false, List, [], ◌∷◌, ◌++◌, length, length-append, arith, ℤ, Option, Some, None, IsTrue}
+use Rattle.std.specs.Prelude.{IsSomeAnd, filter, slice_get}
 use Rattle.std.proofs.lemmas.List.{append-nil}
 use Rattle.qm_model.specs.declared.row.Row.{Row}
 use Rattle.qm_model.specs.declared.range.Range.{Range}
 use Rattle.qm_model.specs.declared.variable.Player.TheVariants.{All as Universal}
 use Rattle.qm_model.specs.declared.variable.Var.{Var}
 use Rattle.qm_model.specs.declared.game.Problem.{Problem}
-use Rattle.qm_model.specs.Legal.{IsPrefix, universal_part}
+use Rattle.qm_model.specs.Legal.{universal_part}
 use Rattle.qm_model.specs.Plays.{BeginWithin, is_universal, whole_vars}
 use Rattle.qm_model.specs.Sound.{IsSound}
 use Rattle.qm_model.proofs.Players.{by_player, is_for_all, not_universal}
 use Rattle.qm_journal.specs.declared.entry.JEntry.{JEntry}
 use Rattle.qm_journal.specs.declared.entry.JKind.TheVariants.{Game, Query}
 use Rattle.qm_journal.specs.Contents.{Contents}
-use Rattle.qm_journal.specs.Lawful.{IsAlivePlay, IsLawful, IsUniversalTurn, has_rows, is_restricted}
+use Rattle.qm_journal.specs.Lawful.{IsAlivePlay, IsLawful, has_rows, is_restricted}
 use Rattle.qm_journal.specs.Positions.{IsParent, position_of}
 use Rattle.qm_journal.specs.Questions.{IsNewQuestion, MayAdd, WentOn, named_prefix}
 use Rattle.qm_journal.proofs.Apart.{game_at, query_parent}
@@ -22,7 +22,7 @@ use Rattle.qm_journal.proofs.Counting.{game_prefix}
 use Rattle.qm_journal.proofs.Entries.{entry_at}
 use Rattle.qm_journal.proofs.Growing.{position_of-start}
 use Rattle.qm_legal.specs.declared.named.NamedPrefix.{NamedPrefix}
-use Rattle.qm_legal.specs.Queries.{IsQueryOf, set_values}
+use Rattle.qm_legal.specs.Queries.{IsQueryOf}
 use Rattle.qm_legal.specs.JournalSteps.{Answered, Grown, IsAdded, IsOpenBox, IsSearched, query_of, query_of_value}
 use Rattle.qm_legal.proofs.AlivePlays.{alive_play}
 

@@ -1,5 +1,5 @@
 -- How the journal grows in the search, and what stays.
-use Rattle.std.proofs.Common.{◌≡◌, ◌≢◌, ◌⊎◌, inl, inr, refl, sym, ap, subst, ◌∙◌, ℕ, zero, suc, ◌+◌, ◌<◌, ◌≤◌, List, [], ◌∷◌, ◌++◌, length, length-append, get_or, take, set, All, arith, ℤ, pos, ◌≤ℤ◌, ◌<ℤ◌, Option, Some, None, IsTrue}
+use Rattle.std.proofs.Common.{◌≡◌, ◌⊎◌, inl, inr, refl, sym, ap, subst, ◌∙◌, ℕ, suc, ◌+◌, ◌<◌, ◌≤◌, List, [], ◌∷◌, ◌++◌, length, length-append, get_or, take, set, arith, ℤ, pos, ◌≤ℤ◌, ◌<ℤ◌, Option, Some, None}
 use Rattle.std.specs.Prelude.{IsSomeAnd, slice_get}
 use Rattle.std.proofs.lemmas.Int.{ints}
 use Rattle.std.proofs.lemmas.List.{append-nil, append_assoc, length-take-le}
@@ -14,11 +14,10 @@ use Rattle.qm_model.specs.Ranges.{single}
 use Rattle.qm_journal.specs.declared.entry.JEntry.{JEntry}
 use Rattle.qm_journal.specs.declared.entry.JKind.TheVariants.{Step}
 use Rattle.qm_journal.specs.Contents.{Contents}
-use Rattle.qm_journal.specs.Lawful.{IsAlivePlay, IsLawful, IsNext, is_restricted}
-use Rattle.qm_journal.specs.Positions.{IsAsked, IsParent, Position, next_position, position_of, universal_values}
-use Rattle.qm_journal.specs.Questions.{LeadBack}
+use Rattle.qm_journal.specs.Lawful.{IsAlivePlay, IsLawful, IsNext}
+use Rattle.qm_journal.specs.Positions.{IsAsked, IsParent, Position, position_of, universal_values}
 use Rattle.qm_journal.proofs.Growing.{IsLawful-enter, IsNext-at, IsParent-append, IsParent-within, position_of-new, position_of-old}
-use Rattle.qm_legal.specs.JournalSteps.{AreStepsWithin, AreUntried, Grown, IsAdded, IsEntered, IsOpenBox, IsSearched, IsStepWithin, StandsAt, number_after, step_of, with_entry}
+use Rattle.qm_legal.specs.JournalSteps.{AreStepsWithin, AreUntried, Grown, IsAdded, IsEntered, IsOpenBox, IsSearched, IsStepWithin, number_after, step_of, with_entry}
 use Rattle.qm_legal.specs.Queries.{set_values}
 
 -- one of the steps that lead back

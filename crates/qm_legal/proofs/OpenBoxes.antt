@@ -1,6 +1,6 @@
 -- Boxes whose later universal ranges are the variables' bounds and have values.
-use Rattle.std.proofs.Common.{◌≡◌, refl, sym, ap, subst, ◌∙◌, ℕ, zero, suc, ◌+◌, ◌<◌, ◌≤◌, Bool, true, false, List, [], ◌∷◌, ◌++◌, length, take, drop, set, arith, ℤ, ◌≤ℤ◌}
-use Rattle.std.specs.Prelude.{◌||◌, ◌&&◌, IsTrue, if◌then◌else◌}
+use Rattle.std.proofs.Common.{◌≡◌, refl, sym, ap, subst, ℕ, zero, suc, ◌+◌, ◌<◌, Bool, true, false, List, [], ◌∷◌, ◌++◌, length, take, drop, set, arith, ℤ, ◌≤ℤ◌}
+use Rattle.std.specs.Prelude.{◌||◌, ◌&&◌, if◌then◌else◌}
 use Rattle.qm_math.proofs.WholeTests.{le_of_false}
 use Rattle.qm_model.specs.declared.range.Range.{Range}
 use Rattle.qm_model.specs.declared.variable.Player.TheVariants.{Exists, All as Universal}
@@ -15,7 +15,7 @@ use Rattle.qm_game.proofs.NextVariables.{next_in_box}
 use Rattle.qm_trees.specs.Closing.{is_empty_range}
 use Rattle.qm_trees.specs.EmptyJudgement.{some_universal_empty}
 use Rattle.qm_legal.specs.Queries.{AreFree, IsQuery}
-use Rattle.qm_legal.specs.SearchSteps.{IsAliveBox, IsOneOf, SetsNext}
+use Rattle.qm_legal.specs.SearchSteps.{IsOneOf, SetsNext}
 use Rattle.qm_legal.specs.JournalSteps.{AreOpen, IsAliveValue, IsOpenBox}
 use Rattle.qm_legal.proofs.Lows.{lows}
 use Rattle.qm_legal.proofs.Places.{alive_behind, alive_behind_value, some_next}

@@ -1,5 +1,5 @@
 -- Parts of a range, and of two that follow on.
-use Rattle.std.proofs.Common.{◌≡◌, refl, sym, ap, subst, ◌∙◌, ℕ, ◌+◌, List, [], ◌∷◌, ◌++◌, length, drop, set, map, All, arith, ℤ, pos, ◌+ℤ◌, ◌-ℤ◌, ◌≤ℤ◌, ◌<ℤ◌, false, Some}
+use Rattle.std.proofs.Common.{◌≡◌, refl, sym, subst, ℕ, ◌+◌, List, [], ◌∷◌, ◌++◌, drop, set, map, arith, ℤ, pos, ◌+ℤ◌, ◌-ℤ◌, ◌≤ℤ◌, ◌<ℤ◌, false, Some}
 use Rattle.std.specs.Prelude.{int_le}
 use Rattle.std.proofs.lemmas.Int.{ints}
 use Rattle.std.proofs.lemmas.List.{map-append}
@@ -10,7 +10,7 @@ use Rattle.qm_model.specs.declared.variable.Var.{Var}
 use Rattle.qm_model.specs.declared.game.Problem.{Problem}
 use Rattle.qm_model.specs.Boxes.{Cover, FollowOn}
 use Rattle.qm_model.specs.Ranges.{range_at, single}
-use Rattle.qm_trees.specs.declared.empty.Empty.{Empty, Split}
+use Rattle.qm_trees.specs.declared.empty.Empty.{Split}
 use Rattle.qm_trees.specs.declared.empty.EmptyPart.{EmptyPart}
 use Rattle.qm_trees.specs.EmptyJudgement.{range_of, below_of}
 use Rattle.qm_legal.specs.Queries.{Shows}

@@ -1,5 +1,5 @@
 -- Steps of the search in the journal: where it stands, and what it adds.
-use Rattle.std.specs.Prelude.{◌≡◌, ◌⊎◌, ℕ, zero, suc, ◌+◌, ◌<◌, ℤ, ◌≤ℤ◌, false, IsTrue, List, [], ◌∷◌, ◌++◌, All, drop, length, map, slice_set, Option, Some, None}
+use Rattle.std.specs.Prelude.{◌≡◌, ◌⊎◌, ℕ, suc, ◌+◌, ◌<◌, ℤ, ◌≤ℤ◌, false, IsTrue, List, [], ◌∷◌, ◌++◌, All, drop, length, map, slice_set, Option, Some, None}
 use Rattle.qm_math.specs.Ranges.{IsBetween}
 use Rattle.qm_model.specs.declared.range.Range.{Range}
 use Rattle.qm_model.specs.declared.variable.Player.TheVariants.{All as Universal}
@@ -10,7 +10,7 @@ use Rattle.qm_model.specs.Plays.{whole_vars}
 use Rattle.qm_model.specs.Ranges.{range_at}
 use Rattle.qm_game.specs.First.{HasNone}
 use Rattle.qm_journal.specs.declared.entry.JEntry.{JEntry}
-use Rattle.qm_journal.specs.declared.entry.JKind.TheVariants.{Query, Step}
+use Rattle.qm_journal.specs.declared.entry.JKind.TheVariants.{Step}
 use Rattle.qm_journal.specs.declared.journal.JournalFault.{JournalFault}
 use Rattle.qm_journal.specs.declared.journal.JournalFault.TheVariants as journal_fault
 use Rattle.qm_journal.specs.Contents.{Contents}

@@ -11,7 +11,6 @@ use Rattle.qm_game.specs.First.{HasNone}
 use Rattle.qm_trees.specs.declared.empty.Empty.{Empty}
 use Rattle.qm_trees.specs.declared.empty.EmptyPart.{EmptyPart}
 use Rattle.qm_trees.specs.EmptyJudgement.{range_of, below_of, some_universal_empty}
-use Rattle.qm_model.specs.Ranges.{range_at}
 use Rattle.qm_legal.specs.Queries.{AreSet, Shows}
 
 -- the player sets the next variable

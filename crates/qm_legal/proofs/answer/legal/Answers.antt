@@ -1,4 +1,4 @@
-use Rattle.std.proofs.Common.{◌≡◌, ◌∙◌, refl, length, None}
+use Rattle.std.proofs.Common.{◌∙◌, refl, length}
 use Rattle.qm_journal.specs.Questions.{named_prefix}
 use Rattle.qm_legal.proofs.Asking.{answered_at_once}
 use Rattle.qm_legal.proofs.Plays.{illegal_prefix, legal_completion, tree_is_illegal, values_complete}

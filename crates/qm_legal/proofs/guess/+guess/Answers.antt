@@ -1,4 +1,4 @@
-use Rattle.std.proofs.Common.{◌≡◌, ◌∙◌, true, false, ap, sym, length, arith, drop}
+use Rattle.std.proofs.Common.{◌≡◌, ◌∙◌, true, false, ap, sym, length, arith}
 use Rattle.std.proofs.lemmas.List.{length-drop}
 use Rattle.qm_model.specs.declared.variable.Player.TheVariants.{Exists, All as Universal}
 use Rattle.qm_model.proofs.Players.{exists_of}

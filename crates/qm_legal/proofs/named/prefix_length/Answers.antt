@@ -1,4 +1,4 @@
-use Rattle.std.proofs.Common.{◌≡◌, ◌∙◌, ◌+◌, length, arith, ap, subst}
+use Rattle.std.proofs.Common.{◌≡◌, ◌∙◌, length, arith, ap}
 use Rattle.qm_journal.specs.Positions.{position_of}
 use Rattle.qm_legal.proofs.Asking.{no_prefix, step_back}
 use Rattle.qm_legal.proofs.named.prefix_length.Goals as goal

@@ -1,4 +1,4 @@
-use Rattle.std.proofs.Common.{◌≡◌, rules}
+use Rattle.std.proofs.Common.{◌≡◌}
 use Rattle.qm_legal.proofs.Plays.{illegal_prefix, legal_completion, tree_is_illegal, values_complete}
 use Rattle.qm_legal.proofs.query.complete.Goals as goal
 

@@ -1,4 +1,4 @@
-use Rattle.std.proofs.Common.{rules, ◌≡◌, ℕ, ◌+◌, ℤ, ◌-ℤ◌, ◌+ℤ◌, pos, ◌∙◌, [], ◌∷◌, ◌++◌, drop, length, refl, sym, to_z, ap, set, arith, inl, inr, Some}
+use Rattle.std.proofs.Common.{rules, ◌≡◌, ◌+◌, ◌-ℤ◌, ◌+ℤ◌, pos, ◌∙◌, [], ◌∷◌, ◌++◌, drop, length, refl, sym, to_z, ap, set, arith, inl, inr}
 use Rattle.std.proofs.lemmas.Int.{ints, to_z-of_z}
 use Rattle.std.proofs.lemmas.List.{length-drop}
 use Rattle.std.proofs.lemmas.List.Elements.{All-nil}

@@ -1,4 +1,4 @@
-use Rattle.std.proofs.Common.{refl, sym, ◌∙◌, arith}
+use Rattle.std.proofs.Common.{sym, ◌∙◌, arith}
 use Rattle.std.proofs.lemmas.List.{length-take}
 use Rattle.qm_model.proofs.BoxLaws.{IsBox-length}
 use Rattle.qm_legal.proofs.RightTrees.{dead_shows, empty_shows}
