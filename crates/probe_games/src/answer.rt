@@ -2,6 +2,7 @@ ghost use Rattle.std.specs.Prelude.{◌<◌, ◌^◌, All, length};
 ghost use Rattle.qm_model.specs.Boxes.{IsBox};
 ghost use Rattle.qm_model.specs.Sound.{IsRowOver};
 
+use crate::asked::asked_line;
 use crate::boxes::box_of;
 use crate::certificates::written_line;
 use crate::combinations::combination_line;
@@ -101,6 +102,7 @@ fn answer_over(
         Question::Combination => combination_line(alloc, game, cuts, &bx, rest),
         Question::Empty => empty_line(alloc, game, bx, rest),
         Question::Legal => legal_line(alloc, game, bx, rest),
+        Question::Asked => asked_line(alloc, game, rest),
         Question::Policy => policy_line(alloc, game, bx, rest),
         Question::Refute => refutation_line(alloc, game, cuts, bx, rest),
         Question::Solve => solve_line(alloc, game),

@@ -9,7 +9,7 @@ use probe_words::one_line;
 use qm_certfile::{Certificate, write};
 use qm_combo::test_empty;
 use qm_game::{Bx, Game, Player, Range, Var};
-use qm_legal::{Empty, Legality, legal};
+use qm_legal::{Empty, Legality, complete};
 use std::alloc::{AllocError, Global};
 
 /// Whether the values of the universal variables before the depth, which are set in the box, can be completed to a play:
@@ -27,7 +27,7 @@ pub fn legal_line(alloc: Global, game: &Game, bx: Bx, depth: &str) -> Result<Str
 fn legality_line(alloc: Global, game: &Game, bx: Bx, depth: u32) -> Result<String, AllocError>
     requires { IsQuery game.now depth bx }
 {
-    match legal(alloc, game, depth, &bx) {
+    match complete(alloc, game, depth, &bx) {
         Ok(Legality::Completion(values)) => {
             let values = number_words(alloc, values.as_slice())?;
             format!(in alloc; "completion{values}")

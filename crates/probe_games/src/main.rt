@@ -12,11 +12,13 @@
 //! closes a goal, as `for any` or `for above 3`; `empty` whether a tree passes, given `by` its lines, joined by ` / `.
 //! `policy` tells whether a policy passes, as `reaching 2 by choose 0 / leaf`, and `refute` whether a refutation does, as
 //! `for above 2 by close o`; `write` the text of a certificate that is told by its parts, as `of 0 |  | leaf | close o`.
-//! `legal` tells whether the values that are set before a `depth` can be completed to a play; `solve` the certificate,
+//! `legal` tells whether the values that are set before a `depth` can be completed to a play; `asked` the same of none, with a
+//! journal of at most so many entries, as `limit 5`, and the entries that were made; `solve` the certificate,
 //! its lines joined so, or the prefix whose leaf run leaves, with the pivots and the operation.
 #![tactic(auto)]
 
 mod answer;
+mod asked;
 mod boxes;
 mod certificates;
 mod combinations;

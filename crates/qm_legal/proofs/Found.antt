@@ -32,13 +32,13 @@ module _ (P : Problem) (later : List Var) (depth : ℕ) (bx : List Range) where
       subst (λ (r : Range). IsOneOf r run) is (rw run_is here)
 
   -- the part of a value below which a tree was found
-  pub part_found : (run : Range) (below : Empty) (part : EmptyPart) (after : List Range) → IsOneOf (range_at bx depth) run → Shows P later (depth + 1) (set bx depth run) below
-      → range_of part ≡ run → below_of part ≡ below → after ≡ bx → IsFoundPart P later depth bx after run.low (Some part)
-  part_found run below part after one shows range_is below_is same = (
+  pub part_found : (run : Range) (below : Empty) (part : EmptyPart) (after : List Range) (last : ℤ) → run.low ≡ run.high → run.high ≤ℤ last → Shows P later (depth + 1) (set bx depth run) below
+      → range_of part ≡ run → below_of part ≡ below → after ≡ bx → IsFoundPart P later depth bx after run.low last (Some part)
+  part_found run below part after last single within shows range_is below_is same = (
     record {
       low = ap (λ (r : Range). r.low) range_is;
-      some = rw range_is (omega (arith, ints, one.single));
-      high = rw range_is one.high;
+      some = rw range_is (omega (arith, ints, single));
+      high = rw range_is within;
       below = rw (range_is, below_is) shows;
     },
     same,

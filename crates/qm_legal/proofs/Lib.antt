@@ -6,3 +6,8 @@ pub mod Places
 pub mod Found
 pub mod Plays
 pub mod WholeBoxes
+pub mod OpenBoxes
+pub mod AlivePlays
+pub mod Growth
+pub mod Asking
+pub mod RangeParts

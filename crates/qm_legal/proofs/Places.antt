@@ -145,11 +145,11 @@ module _ (P : Problem) (later : List Var) (depth : ℕ) (bx : List Range) where
     pub high : (range_of part).high ≤ℤ covered.high
     pub below : Shows P later (depth + 1) (slice_set bx depth (range_of part)) (below_of part)
 
-  pub part_from : (before : List Range) (covered run : Range) (next : ℤ) (part : EmptyPart) → before ≡ bx → covered ≡ range_at bx depth → run ≡ single next
-      → IsPart P later depth before run.low part → Part covered next part
-  part_from before covered run next part same is run_is here =
+  pub part_from : (before : List Range) (covered run : Range) (next last : ℤ) (part : EmptyPart) → before ≡ bx → last ≡ covered.high → run ≡ single next
+      → IsPart P later depth before run.low last part → Part covered next part
+  part_from before covered run next last part same is run_is here =
       let at_next = rw (same, run_is) at here in
-      record { low = at_next.low; some = at_next.some; high = rw is at_next.high; below = at_next.below }
+      record { low = at_next.low; some = at_next.some; high = rw is at at_next.high; below = at_next.below }
 
   -- one part more
   pub reached_more : (covered : Range) (next : ℤ) (parts pushed : List EmptyPart) (part : EmptyPart) → Reached P later depth bx covered next parts

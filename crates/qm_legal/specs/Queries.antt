@@ -1,5 +1,5 @@
 -- What is asked, and what is answered.
-use Rattle.std.specs.Prelude.{◌≡◌, ◌↔◌, ◌≤◌, ℕ, ℤ, List, [], ◌∷◌, ◌++◌, drop, take, map, true, Ok}
+use Rattle.std.specs.Prelude.{◌≡◌, ◌↔◌, ◌≤◌, ℕ, ℤ, List, [], ◌∷◌, ◌++◌, drop, length, take, map, true, Ok}
 use Rattle.qm_model.specs.declared.range.Range.{Range}
 use Rattle.qm_model.specs.declared.variable.Player.TheVariants.{All as Universal}
 use Rattle.qm_model.specs.declared.variable.Var.{Var}
@@ -40,6 +40,11 @@ low_of r = r.low
 -- the values of the universal variables before the depth
 abbrev pub set_values : Problem → ℕ → List Range → List ℤ
 set_values P depth bx = universal_part (take depth (whole_vars P)) (map low_of bx)
+
+-- a box of the game, in which the universal variables that the prefix sets have its values and the others are free
+pub record IsQueryOf (P : Problem) (prefix : List ℤ) (bx : List Range) : Type 0 where
+  pub query : IsQuery P (length prefix) bx
+  pub values : set_values P (length prefix) bx ≡ universal_part (whole_vars P) prefix
 
 -- the tree is right over the box, where it may split these variables, and no operation leaves
 pub record Shows (P : Problem) (rest : List Var) (depth : ℕ) (bx : List Range) (tree : Empty) : Type 0 where

@@ -1,6 +1,7 @@
 -- Steps of the search: what it finds from a place on.
-use Rattle.std.specs.Prelude.{◌≡◌, ℕ, ◌+◌, ℤ, ◌≤ℤ◌, List, [], ◌∷◌, take, slice_set, Option, Some, None}
+use Rattle.std.specs.Prelude.{◌≡◌, ℕ, ◌+◌, ℤ, ◌≤ℤ◌, ◌<ℤ◌, false, List, [], ◌∷◌, take, slice_set, Option, Some, None}
 use Rattle.qm_model.specs.declared.range.Range.{Range}
+use Rattle.qm_model.specs.declared.row.Row.{Row}
 use Rattle.qm_model.specs.declared.variable.Player.{Player}
 use Rattle.qm_model.specs.declared.variable.Var.{Var}
 use Rattle.qm_model.specs.declared.game.Problem.{Problem}
@@ -9,8 +10,7 @@ use Rattle.qm_model.specs.Plays.{whole_vars}
 use Rattle.qm_game.specs.First.{HasNone}
 use Rattle.qm_trees.specs.declared.empty.Empty.{Empty}
 use Rattle.qm_trees.specs.declared.empty.EmptyPart.{EmptyPart}
-use Rattle.qm_trees.specs.EmptyJudgement.{range_of, below_of}
-use Rattle.qm_model.specs.Ranges.{range_at}
+use Rattle.qm_trees.specs.EmptyJudgement.{range_of, below_of, some_universal_empty}
 use Rattle.qm_legal.specs.Queries.{AreSet, Shows}
 
 -- the player sets the next variable
@@ -45,14 +45,27 @@ pub record IsOneOf (covered one : Range) : Type 0 where
   pub low : covered.low ≤ℤ one.low
   pub high : one.high ≤ℤ covered.high
 
--- a part of values from `next` on, below which the tree shows it
-pub record IsPart (P : Problem) (later : List Var) (depth : ℕ) (bx : List Range) (next : ℤ) (part : EmptyPart) : Type 0 where
+-- a part of values from `next` on, at most up to `last`, below which the tree shows it
+pub record IsPart (P : Problem) (later : List Var) (depth : ℕ) (bx : List Range) (next last : ℤ) (part : EmptyPart) : Type 0 where
   pub low : (range_of part).low ≡ next
   pub some : next ≤ℤ (range_of part).high
-  pub high : (range_of part).high ≤ℤ (range_at bx depth).high
+  pub high : (range_of part).high ≤ℤ last
   pub below : Shows P later (depth + 1) (slice_set bx depth (range_of part)) (below_of part)
 
 -- a part, and the box is as it was; or there is none, and the box is completed
-abbrev pub IsFoundPart : Problem → List Var → ℕ → List Range → List Range → ℤ → Option EmptyPart → Type 0
-IsFoundPart P later depth bx after next (Some part) = IsPart P later depth bx next part × (after ≡ bx)
-IsFoundPart P later depth bx after next None = IsCompleted P depth bx after
+abbrev pub IsFoundPart : Problem → List Var → ℕ → List Range → List Range → ℤ → ℤ → Option EmptyPart → Type 0
+IsFoundPart P later depth bx after next last (Some part) = IsPart P later depth bx next last part × (after ≡ bx)
+IsFoundPart P later depth bx after next last None = IsCompleted P depth bx after
+
+-- the longest run of values from the low end of this one on, at most up to `last`, that the row is dead over
+pub record IsDeadRun (row : Row) (bx : List Range) (depth : ℕ) (run : Range) (last : ℤ) (found : Range) : Type 0 where
+  pub low : found.low ≡ run.low
+  pub some : run.high ≤ℤ found.high
+  pub high : found.high ≤ℤ last
+  pub dead : IsDead (slice_set bx depth found) row
+  pub longest : (v : ℤ) → found.high <ℤ v → v ≤ℤ last → ¬ IsDead (slice_set bx depth (range_to run.low v)) row
+
+-- a tree that shows at once that no play is left; or none, where no universal range is empty and no uncertainty row dead
+abbrev pub IsClosedAtOnce : Problem → List Var → ℕ → List Range → Option Empty → Type 0
+IsClosedAtOnce P rest depth bx (Some tree) = Shows P rest depth bx tree
+IsClosedAtOnce P rest depth bx None = (some_universal_empty (whole_vars P) bx ≡ false) × HasNone (IsDead bx) P.urows

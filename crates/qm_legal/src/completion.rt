@@ -1,11 +1,12 @@
 ghost use Rattle.std.specs.Prelude.{◌≡◌, ◌≤◌, ◌&&◌, ◌++◌, ◌∷◌, [], IfOk, OnOk, drop, length, map, if◌then◌else◌};
+ghost use Rattle.qm_model.specs.Boxes.{IsBox};
 ghost use Rattle.qm_model.specs.Legal.{universal_part};
 ghost use Rattle.qm_model.specs.Plays.{is_universal};
 ghost use Rattle.qm_trees.specs.Closing.{is_empty_range};
 ghost use Rattle.qm_trees.specs.EmptyJudgement.{some_universal_empty};
 ghost use Rattle.qm_legal.specs.Queries.{low_of};
 
-use qm_game::{Range, Var};
+use qm_game::{Bx, Place, Range, Var};
 use qm_io::{List, Memory};
 use qm_model::is_for_all;
 use std::alloc::Global;
@@ -52,4 +53,23 @@ pub fn some_universal_empty(vars: &[Var], bx: &[Range]) -> bool
         }
     }
     false
+}
+
+/// The ranges from the depth on.
+fn ranges_from(bx: &[Range], depth: usize) -> &[Range]
+    requires { depth ≤ length bx.now }
+    ensures { result.now ≡ drop depth bx.now }
+{
+    &bx[depth..]
+}
+
+/// The values of the universal variables from here on, which are set in the box.
+pub fn completion(alloc: Global, here: Place<'_>, bx: &Bx) -> Result<List<i64>, Memory>
+    requires depth { here.depth ≤ here.game.now.wholes }
+    requires bx { IsBox here.game.now.vars bx.now }
+    ensures { IfOk result (λ values. values ≡ universal_part here.entry.rest.now (map low_of (drop here.entry.depth bx.now))) }
+{
+    // that the whole variables are some of all
+    let _problem = here.game.problem();
+    universal_lows(alloc, here.rest, ranges_from(bx.as_slice(), here.depth))
 }

@@ -54,3 +54,18 @@ pub fn is_dead_with(here: Place<'_>, row: &Row, bx: &mut Bx, range: Range) -> bo
     here.put(bx, before);
     answer
 }
+
+/// The number of the first uncertainty row that is dead once the next variable has this range. The box stays as it was.
+pub fn dead_row_with(here: Place<'_>, bx: &mut Bx, range: Range) -> Option<u32>
+    requires bx { IsBox here.game.now.vars bx.old }
+    requires some { 0 < length here.rest.now }
+    requires inside { IsInside range (range_at bx.old here.depth) }
+    ensures row { let with = slice_set bx.old here.entry.depth range in MatchOption result (HasNone (IsDead with) here.entry.game.now.urows) (IsFirst (IsDead with) here.entry.game.now.urows) }
+    ensures same { bx.new ≡ bx.old }
+{
+    let before = here.range(bx);
+    here.put(bx, range);
+    let answer = dead_row(here.game, bx);
+    here.put(bx, before);
+    answer
+}

@@ -3,7 +3,7 @@ ghost use Rattle.qm_math.specs.Ranges.{IsBetween};
 ghost use Rattle.qm_model.specs.Boxes.{IsBox, IsDead};
 ghost use Rattle.qm_model.specs.Sound.{IsRowOver};
 ghost use Rattle.qm_model.specs.Ranges.{range_at, single};
-ghost use Rattle.qm_legal.specs.SearchSteps.{range_to};
+ghost use Rattle.qm_legal.specs.SearchSteps.{IsDeadRun, range_to};
 
 use crate::dead::is_dead_with;
 use qm_game::{Bx, Place, Range, Row};
@@ -71,24 +71,21 @@ fn lower(bracket: Range, tried: Range) -> Range
     }
 }
 
-/// The longest run of values from the low end of this one on that the row is dead over, where it is dead over this
-/// one: its high end lies in a bracket that is halved. The box stays as it was.
-pub fn dead_run(here: Place<'_>, row: &Row, bx: &mut Bx, run: Range) -> Range
+/// The longest run of values from the low end of this one on, at most up to the high end of `within`, that the row is
+/// dead over, where it is dead over this one: its high end lies in a bracket that is halved. The box stays as it was.
+pub fn dead_run(here: Place<'_>, row: &Row, bx: &mut Bx, run: Range, within: Range) -> Range
     requires row { IsRowOver here.game.now.vars row.now }
     requires bx { IsBox here.game.now.vars bx.old }
     requires next { 0 < length here.rest.now }
     requires low { (range_at bx.old here.depth).low ≤ℤ run.low }
     requires some { run.low ≤ℤ run.high }
-    requires high { run.high ≤ℤ (range_at bx.old here.depth).high }
+    requires before { run.high ≤ℤ within.high }
+    requires within { within.high ≤ℤ (range_at bx.old here.depth).high }
     requires dead { IsDead (slice_set bx.old here.depth run) row.now }
-    ensures low { result.low ≡ run.low }
-    ensures some { run.high ≤ℤ result.high }
-    ensures high { result.high ≤ℤ (range_at bx.old here.entry.depth).high }
-    ensures dead { IsDead (slice_set bx.old here.entry.depth result) row.now }
+    ensures run { IsDeadRun row.now bx.old here.entry.depth run within.high result }
     ensures same { bx.new ≡ bx.old }
 {
-    let covered = here.range(bx);
-    let mut bracket = upper(covered, run);
+    let mut bracket = bracket_of(run, within);
     while bracket.low < bracket.high {
         let tried = halved(run, bracket);
         if is_dead_with(here, row, bx, tried) {
@@ -98,6 +95,16 @@ pub fn dead_run(here: Place<'_>, row: &Row, bx: &mut Bx, run: Range) -> Range
         }
     }
     run_to(run, bracket)
+}
+
+/// The bracket from the high end of the run to that of the values within which it may go on.
+fn bracket_of(run: Range, within: Range) -> Range
+    ensures { result ≡ range_to run.high within.high }
+{
+    Range {
+        low: run.high,
+        high: within.high,
+    }
 }
 
 /// The range from the low end of the run to that of the bracket.

@@ -13,7 +13,7 @@ use crate::walk::best;
 use qm_certfile::Certificate;
 use qm_game::{Game, Place, whole_box};
 use qm_io::List;
-use qm_legal::{Legality, legal};
+use qm_legal::{Legality, complete};
 use std::alloc::Global;
 
 /// The certificate of an outcome over the whole box, with a universal play.
@@ -49,7 +49,7 @@ pub fn solve(alloc: Global, game: &Game) -> Result<Certificate, SearchFault>
     // that the problem is in order
     let _problem = game.problem();
     let mut bx = whole_box(alloc, game)?;
-    match legal(alloc, game, 0, &bx)? {
+    match complete(alloc, game, 0, &bx)? {
         Legality::Illegal(tree) => Ok(Certificate::Empty(tree)),
         Legality::Completion(play) => {
             let outcome = best(alloc, Place::at(game, 0), &mut bx, play.as_slice())?;

@@ -6,7 +6,7 @@ ghost use Rattle.qm_search.specs.PlaceSteps.{IsSearchBox, next_value};
 
 use qm_game::{Bx, Game, Place};
 use qm_io::{List, Memory};
-use qm_legal::{Legality, legal};
+use qm_legal::{Legality, complete};
 use qm_model::single;
 use std::alloc::Global;
 
@@ -46,7 +46,7 @@ pub fn legality(alloc: Global, here: Place<'_>, bx: &mut Bx, value: i64) -> Resu
 {
     let before = here.range(bx);
     here.put(bx, single(value));
-    let answer = legal(alloc, here.game, here.depth as u32 + 1, bx);
+    let answer = complete(alloc, here.game, here.depth as u32 + 1, bx);
     here.put(bx, before);
     answer
 }

@@ -5,8 +5,8 @@ use Rattle.qm_legal.specs.Queries.{IsRightLegality}
 use Rattle.qm_legal.proofs.WholeBoxes.{whole_box_query}
 use Rattle.qm_search.proofs.ending.solve.Goals as goal
 
-pub legal-requires : goal.legal-requires
-legal-requires c = whole_box_query c.args.game.now c.in_ok-bx.bx c.in_ok-bx.ensures.is_box c.in_ok-bx.ensures.bounds
+pub complete-requires : goal.complete-requires
+complete-requires c = whole_box_query c.args.game.now c.in_ok-bx.bx c.in_ok-bx.ensures.is_box c.in_ok-bx.ensures.bounds
 
 pub returns-in-Illegal-clause-ending : goal.returns-in-Illegal-clause-ending
 returns-in-Illegal-clause-ending c =

@@ -6,8 +6,8 @@ use Rattle.qm_cover.proofs.Places.{put_back}
 use Rattle.qm_search.proofs.SearchBoxes.{next_box, query}
 use Rattle.qm_search.proofs.legality.legality.Goals as goal
 
-pub legal-answer-requires : goal.legal-answer-requires
-legal-answer-requires c =
+pub complete-answer-requires : goal.complete-answer-requires
+complete-answer-requires c =
     let P = c.args.here.game.now in
     let depth = c.args.here.depth in
     let next = next_box P c.args.here.rest.now depth c.args.bx.now c.args.here.from_depth c.requires.some c.requires.bx c.args.value c.requires.within in

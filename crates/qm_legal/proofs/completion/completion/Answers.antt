@@ -2,7 +2,7 @@ use Rattle.std.proofs.Common.{arith}
 use Rattle.std.proofs.lemmas.List.{length-drop, length-take}
 use Rattle.qm_model.specs.Plays.{whole_vars}
 use Rattle.qm_model.proofs.BoxLaws.{IsBox-length}
-use Rattle.qm_legal.proofs.query.completion.Goals as goal
+use Rattle.qm_legal.proofs.completion.completion.Goals as goal
 
 pub ranges_from-requires : goal.ranges_from-requires
 ranges_from-requires c =
