@@ -6,7 +6,7 @@ use Rattle.qm_simplex.proofs.RightEnds.{right_told, run_told, short_told}
 use Rattle.qm_simplex.proofs.solve.run_lp.Goals as goal
 
 -- what is told is the run
-told : (c : goal.After-drop-tableau-inside-4) → ListsRun c.args.game.now c.args.cuts.now c.args.bx.now c.end_of.result
+told : (c : goal.After-drop-tableau-inside-6) → ListsRun c.args.game.now c.args.cuts.now c.args.bx.now c.end_of.result
 told c =
     let leads = rw c.in_ok-tableau.ensures at c.in_ok-run.ensures.0 in
     let stops = rw (c.problem.ensures.value, c.as_slice.ensures) at c.end_of.ensures in
