@@ -1,4 +1,4 @@
-ghost use Rattle.std.specs.Prelude.{◌≡◌, ◌<◌, ◌+◌, ◌*◌, ◌≤◌, ◌++◌, All, List, ℕ, ℤ, Option, false, length};
+ghost use Rattle.std.specs.Prelude.{◌≡◌, ◌<◌, ◌+◌, ◌*◌, ◌≤◌, List, ℕ, ℤ, Option, false, length};
 ghost use Rattle.qm_model.specs.declared.game.Problem.{Problem};
 ghost use Rattle.qm_journal.specs.declared.entry.JEntry.{JEntry};
 ghost use Rattle.qm_journal.specs.declared.entry.JKind.TheVariants.{Game};
@@ -7,7 +7,7 @@ ghost use Rattle.qm_journal.specs.Lawful.{IsLawful, is_restricted};
 ghost use Rattle.qm_journal.specs.Questions.{WentOn};
 ghost use Rattle.qm_journal.specs.Enough.{enough, universal_prefixes, whole_prefixes};
 
-/// A lawful journal has less entries than are enough, whatever else a search asks of its prefixes.
+/// A lawful journal has fewer entries than are enough, whatever else a search asks of its prefixes.
 pub fn lawful_journals_are_short()
     ensures all { (P : Problem) (J : List JEntry) → IsLawful P J → length J + 2 ≤ whole_prefixes P * (1 + universal_prefixes P) }
     ensures unrestricted { (P : Problem) (J : List JEntry) → IsLawful P J → is_restricted P ≡ false → length J < whole_prefixes P }

@@ -1,8 +1,8 @@
 //! The journal of a search: which prefixes it looked into, one entry for each, and no more entries than the budget.
 //!
 //! A `Journal` takes entries up to its limit (`enter`), and tells when that is spent. The definitions say what an entry
-//! names and when a journal is lawful (`specs/Positions`, `Lawful`), how many entries are always enough (`Enough`), and what
-//! a question about legality may add (`Questions`). `laws` has the count: a lawful journal has less entries than that.
+//! stands for and when a journal is lawful (`specs/Positions`, `Lawful`), how many entries are always enough (`Enough`), and what
+//! a question about legality may add (`Questions`). `laws` has the count: a lawful journal has fewer entries than that.
 #![tactic(auto)]
 
 mod entry;
