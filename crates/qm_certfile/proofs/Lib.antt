@@ -4,7 +4,7 @@ mod CertificateTexts
 mod DifferentTexts
 mod EmptyTold
 mod LineSplits
-mod LineTexts
+pub mod LineTexts
 mod LowestValues
 mod NearRanges
 mod NumberWords

@@ -1,6 +1,13 @@
 use Rattle.std.proofs.Common.{refl}
-use Rattle.std.specs.Prelude.{IfOk}
-use Rattle.qm_top.specs.Answers.{SolvesProblem, claimed, left}
-use Rattle.qm_top.specs.Report.{status_of, text_of}
-use Rattle.qm_top.proofs.Answering.{IfOk-map, claims_of}
+use Rattle.qm_top.specs.Answers.{claimed, left}
+use Rattle.qm_top.proofs.Answering.{claims_of}
 use Rattle.qm_top.proofs.solve.solve_game.Goals as goal
+
+pub returns-in_ok-write-in-Ok : goal.returns-in_ok-write-in-Ok
+returns-in_ok-write-in-Ok c =
+    let sound = rw c.problem-problem.ensures.value at c.problem-problem.ensures.sound in
+    claimed (claims_of c.args.game.now c.in-Ok.certificate c.in_ok-write-in-Ok.field-0 sound c.in-Ok.ensures.passes c.in_ok-write-in-Ok.ensures) refl
+
+pub returns-in_ok-leave_text-in-Err-Leave : goal.returns-in_ok-leave_text-in-Err-Leave
+returns-in_ok-leave_text-in-Err-Leave c =
+    left c.in-Err-Leave.leave (rw c.in-Err-Leave.field-0-is at c.in-Err-Leave.ensures.fault) refl c.in_ok-leave_text-in-Err-Leave.ensures
