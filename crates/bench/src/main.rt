@@ -2,12 +2,14 @@
 //! Its words are the operation, the kind of the operands and how many thousand times; or `tokens` and how many
 //! thousand bytes of text are to be cut into tokens; or `parse` and how many thousand terms a text has that is to be
 //! read; or `propagate` and how many times a game is to be propagated; or `legal` and how many times legality is to be
-//! asked of a game with budgets of the universal player; or `pivots`, the shape of a made tableau and how
+//! asked of a game with budgets of the universal player; or `entries` and how many thousand entries are to be put into a
+//! journal; or `pivots`, the shape of a made tableau and how
 //! many pairs of pivots are to be done on it, the second of each taking the first back; or `runs`, the number of
 //! variables and the seed of a made problem, and how many times its relaxation is to be solved. It is timed from outside.
 #![tactic(auto)]
 
 mod drawn;
+mod entries;
 mod games;
 mod legality;
 mod operands;
@@ -17,10 +19,12 @@ mod tableaus;
 mod texts;
 mod work;
 
+use entries::entered_in;
 use games::reasons_in;
 use legality::completed_in;
 use operands::Operands;
 use parses::rows_in;
+use qm_journal::JournalFault;
 use runs::Runs;
 use std::{env, io};
 use tableaus::{Shape, pivots};
@@ -76,6 +80,11 @@ fn main(rt: HostRuntime) -> io::Result<()> {
             ("legal", Ok(times)) => match completed_in(alloc, times) {
                 Ok(count) => println!(rt; "{count}"),
                 Err(_) => println!(rt; "out of memory"),
+            },
+            ("entries", Ok(thousands)) => match entered_in(alloc, thousands) {
+                Ok(last) => println!(rt; "{last}"),
+                Err(JournalFault::Spent) => println!(rt; "spent"),
+                Err(JournalFault::Memory) => println!(rt; "out of memory"),
             },
             ("parse", Ok(thousands)) => {
                 let rows = rows_in(alloc, thousands)?;

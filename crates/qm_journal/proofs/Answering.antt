@@ -1,8 +1,8 @@
 -- What an answer adds is no game entry.
 use Rattle.std.proofs.Common.{◌≡◌, sym, ap, subst, ℕ, zero, suc, List, [], ◌∷◌, ◌++◌, All, Option, Some, None, length, ℤ}
-use Rattle.std.proofs.lemmas.List.Elements.{All-cons, All-nil, All-weaker}
+use Rattle.std.proofs.lemmas.List.Elements.{All-cons, All-nil}
 use Rattle.qm_journal.specs.declared.entry.JEntry.{JEntry}
-use Rattle.qm_journal.specs.declared.entry.JKind.TheVariants.{Game, Query, Step}
+use Rattle.qm_journal.specs.declared.entry.JKind.TheVariants.{Game, Query}
 use Rattle.qm_journal.specs.Positions.{IsOfKind, position_of}
 use Rattle.qm_journal.specs.Questions.{LeadBack, MayAdd, WentOn, query_entry}
 use Rattle.qm_journal.proofs.Places.{some_at-left}

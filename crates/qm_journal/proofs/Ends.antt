@@ -1,5 +1,5 @@
 -- Lists with an item at the end.
-use Rattle.std.proofs.Common.{◌≡◌, ◌≢◌, sym, refl, ap, ap₂, ℕ, ◌+◌, arith, List, [], ◌∷◌, ◌++◌, length, length-append}
+use Rattle.std.proofs.Common.{◌≡◌, ◌≢◌, sym, refl, ap, ap₂, arith, List, [], ◌∷◌, ◌++◌, length, length-append}
 use Rattle.qm_math.proofs.Lists.{cons-first, cons-rest}
 
 pub snoc-nonempty : {X : Type 0} (xs : List X) (v : X) → xs ++ v ∷ [] ≢ []

@@ -1,14 +1,14 @@
 -- The facts of each entry of a lawful journal.
-use Rattle.std.proofs.Common.{◌≡◌, ◌≢◌, ◌∙◌, ◌⊎◌, inl, inr, sym, refl, ap, ap₂, subst, ℕ, zero, suc, ◌+◌, ◌<◌, ◌≤◌, arith, List, [], ◌∷◌, ◌++◌, length, take, drop, get_or, AllPairs, ℤ, pos}
+use Rattle.std.proofs.Common.{◌≡◌, ◌≢◌, ◌∙◌, sym, refl, ap, subst, ℕ, zero, suc, ◌<◌, ◌≤◌, arith, List, [], ◌∷◌, ◌++◌, length, take, drop, get_or, pos}
 use Rattle.std.proofs.Math.Seq.{take-suc}
 use Rattle.std.proofs.lemmas.List.{get_or-take, length-take-le, take-append-drop}
 use Rattle.qm_model.specs.declared.game.Problem.{Problem}
 use Rattle.qm_journal.specs.declared.entry.JEntry.{JEntry}
 use Rattle.qm_journal.specs.declared.entry.JKind.{JKind}
-use Rattle.qm_journal.specs.declared.entry.JKind.TheVariants.{Game, Query, Step}
-use Rattle.qm_journal.specs.Positions.{IsAsked, IsParent, MayFollow, Position, next_position, position_of}
+use Rattle.qm_journal.specs.declared.entry.JKind.TheVariants.{Game}
+use Rattle.qm_journal.specs.Positions.{IsParent, MayFollow, next_position, position_of}
 use Rattle.qm_journal.specs.Lawful.{IsLawful, IsNext, MayAppend}
-use Rattle.qm_journal.proofs.Places.{some_at-get, some_at-take}
+use Rattle.qm_journal.proofs.Places.{some_at-take}
 use Rattle.qm_journal.proofs.Growing.{IsNext-at, IsParent-within, position_of-new, position_of-old}
 
 -- an entry for the places where there is none

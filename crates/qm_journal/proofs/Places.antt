@@ -1,5 +1,5 @@
 -- The item at a place of a list, if there is one.
-use Rattle.std.proofs.Common.{◌≡◌, All, ℕ, zero, suc, ◌<◌, arith, subst, List, [], ◌∷◌, ◌++◌, length, take, drop, get_or, IsSomeAnd}
+use Rattle.std.proofs.Common.{All, ℕ, zero, suc, ◌<◌, arith, subst, List, [], ◌∷◌, ◌++◌, length, take, drop, get_or, IsSomeAnd}
 use Rattle.std.specs.Prelude.{slice_get}
 use Rattle.std.proofs.lemmas.List.{take-append-drop}
 use Rattle.std.proofs.lemmas.List.Elements.{All-head, All-tail}

@@ -1,5 +1,5 @@
 -- The place of a list of values among all that the first variables have: 0 for the empty list.
-use Rattle.std.proofs.Common.{◌≡◌, ◌∙◌, sym, refl, ap, ap₂, ℕ, suc, ◌+◌, ◌*◌, ◌-◌, ◌/◌, ◌<◌, ◌≤◌, arith, mul-le-mul_right, List, [], ◌∷◌, ◌++◌, ℤ, ◌-ℤ◌}
+use Rattle.std.proofs.Common.{◌≡◌, ◌∙◌, sym, refl, ap, ap₂, ℕ, suc, ◌+◌, ◌*◌, ◌/◌, ◌<◌, ◌≤◌, arith, mul-le-mul_right, List, [], ◌∷◌, ◌++◌, ℤ, ◌-ℤ◌}
 use Rattle.std.proofs.lemmas.Nat.{div-mul-add}
 use Rattle.qm_math.specs.Ranges.{IsBetween, count_of, size_of}
 use Rattle.qm_math.proofs.Counts.{place_within-below, place_within-one}
