@@ -1,6 +1,7 @@
 use crate::forms::normal_of;
 use crate::fractions::fraction_of;
 use crate::lines::{line_end_of, place_of};
+use crate::made::{bytes_made_of, made_of};
 use crate::numbers::{Reading, number_of};
 use crate::reports::{report_in_pieces, report_of};
 use crate::streams::{calls_of, reading_of, writing_of};
@@ -17,6 +18,8 @@ pub fn answer(alloc: Global, line: &str) -> Result<String, AllocError> {
         "fault" => fault_of(alloc, rest),
         "tree" => tree_of(alloc, rest),
         "normal" => normal_of(alloc, rest),
+        "made" => made_of(alloc, rest),
+        "bytes" => bytes_made_of(alloc, rest),
         "report" => report_of(alloc, rest),
         "pieces" => report_in_pieces(alloc, rest),
         "read" => reading_of(alloc, rest),
