@@ -70,8 +70,9 @@ impl Play {
 
     /// Walks along the play so many times; what there was to walk along, nothing where there is no such problem.
     pub fn walked(self, alloc: Global) -> Result<Walked, Memory> {
-        let text = text_of(alloc, Density::Dense, self.size, self.wholes, self.seed)
-            .map_err(|_| Memory)?;
+        let text = text_of(alloc, Density::Dense, self.size, self.wholes, self.seed).map_err(
+            |_| Memory,
+        )?;
         match game_of(alloc, &text) {
             Some(game) => self.walked_on(alloc, &game),
             None => Ok(Walked {

@@ -82,8 +82,9 @@ impl Runs {
 
     /// How the last run ends; `None` where there is no run, or no such problem.
     pub fn last(self, alloc: Global) -> Result<Ended, Memory> {
-        let text =
-            text_of(alloc, self.density, self.size, self.size, self.seed).map_err(|_| Memory)?;
+        let text = text_of(alloc, self.density, self.size, self.size, self.seed).map_err(
+            |_| Memory,
+        )?;
         match game_of(alloc, &text) {
             Some(game) => last_on(alloc, &game, self.times),
             None => Ok(Ended::none()),

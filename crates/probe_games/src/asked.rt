@@ -35,10 +35,7 @@ fn asked_within(alloc: Global, game: &Game, bx: &Bx, limit: u64) -> Result<Strin
     format!(in alloc; "{answer} by{entries}")
 }
 
-fn answer_words(
-    alloc: Global,
-    answer: Result<Legality, LegalFault>,
-) -> Result<String, AllocError> {
+fn answer_words(alloc: Global, answer: Result<Legality, LegalFault>) -> Result<String, AllocError> {
     match answer {
         Ok(Legality::Completion(values)) => {
             let values = number_words(alloc, values.as_slice())?;
