@@ -51,7 +51,7 @@ def tree_lines(root: Node) -> List[str]:
             lines.append(" ".join(["close", *(["o"] if node.bounds_objective else []), *entries]))
         else:
             assert isinstance(node, Leaf)
-            lines.append("leaf")
+            lines.append(" ".join(["leaf", *map(str, node.point)]))
     return lines
 
 

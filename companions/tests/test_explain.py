@@ -6,7 +6,7 @@ from fractions import Fraction
 
 import support
 
-KEPT = ("crew-after", "surge")
+KEPT = ("crew-after", "surge", "water")
 
 
 def explained(name: str) -> str:
