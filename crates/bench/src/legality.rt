@@ -1,12 +1,10 @@
-ghost use Rattle.std.specs.Prelude.{◌≡◌, ◌≢◌, ◌+◌, [], ◌≤◌, All, IfOk, OnOk, length, pos, unsigned_abs};
-ghost use Rattle.qm_legal.specs.Queries.{IsQueryOf};
+ghost use Rattle.std.specs.Prelude.{◌≡◌, ◌≢◌, ◌+◌, ◌≤◌, All, IfOk, OnOk, length, pos, unsigned_abs};
 ghost use Rattle.bench.specs.Games.{IsPlainUncertainty};
 
 use crate::games::game;
-use qm_game::{Bx, Game, Row, Term, Terms, whole_box};
+use qm_game::{Bx, Row, Term, Terms, whole_box};
 use qm_io::{List, Memory};
-use qm_journal::Journal;
-use qm_legal::{Legality, NamedPrefix, legal};
+use qm_legal::{Legality, complete};
 use smallvec::SmallVec;
 use std::alloc::Global;
 
@@ -65,21 +63,6 @@ fn budgets(alloc: Global) -> Result<List<Row>, Memory>
     Ok(rows)
 }
 
-// How many values complete an empty prefix, with a journal of one entry at most; 0 where there is no answer.
-fn completed(alloc: Global, game: &Game, bx: &Bx) -> usize
-    requires { IsQueryOf game.now [] bx.now }
-{
-    let named = NamedPrefix {
-        parent: 0,
-        value: None,
-    };
-    let mut journal = Journal::new(alloc, 1);
-    match legal(alloc, game, bx, named, &mut journal) {
-        Ok(Legality::Completion(values)) => values.len(),
-        _ => 0,
-    }
-}
-
 /// How many values complete an empty prefix of a game of 1,000 variables and 2,000 rows, 400 of them universal under
 /// budgets, which is asked so many times; 0 where it isn't asked.
 pub fn completed_in(alloc: Global, times: u32) -> Result<usize, Memory> {
@@ -87,7 +70,10 @@ pub fn completed_in(alloc: Global, times: u32) -> Result<usize, Memory> {
     let bx: Bx = whole_box(alloc, &game)?;
     let mut count = 0;
     for _ in 0..times {
-        count = completed(alloc, &game, &bx);
+        count = match complete(alloc, &game, 0, &bx)? {
+            Legality::Completion(values) => values.len(),
+            Legality::Illegal(_) => 0,
+        };
     }
     Ok(count)
 }

@@ -1,5 +1,5 @@
-use Rattle.qm_legal.proofs.WholeBoxes.{whole_box_asked}
+use Rattle.qm_legal.proofs.WholeBoxes.{whole_box_query}
 use Rattle.bench.proofs.legality.completed_in.Goals as goal
 
-pub completed-requires : goal.completed-requires
-completed-requires c = whole_box_asked c.in_ok-game.game c.in_ok-bx.bx c.in_ok-bx.ensures.is_box c.in_ok-bx.ensures.bounds
+pub complete-requires : goal.complete-requires
+complete-requires c = whole_box_query c.in_ok-game.game c.in_ok-bx.bx c.in_ok-bx.ensures.is_box c.in_ok-bx.ensures.bounds
