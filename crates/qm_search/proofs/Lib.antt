@@ -1,5 +1,6 @@
 pub mod SingleParts
 pub mod BelowTests
+pub mod HarderGoals
 pub mod ChoiceLaws
 pub mod AnswerLaws
 pub mod SearchBoxes
