@@ -10,5 +10,7 @@ pub mod WholeBound
 pub mod DeadRows
 pub mod SetLeaves
 pub mod LeafRows
+pub mod BoxPrefixes
+pub mod OpenBoxes
 pub mod EndBoxes
 pub mod LeafEnds
