@@ -11,3 +11,5 @@ pub mod SetLeaves
 pub mod LeafRows
 pub mod EndBoxes
 pub mod LeafEnds
+pub mod JournalGoesOn
+pub mod EnteredJournals
