@@ -15,7 +15,9 @@ use Rattle.qm_journal.proofs.Entries.{nowhere}
 use Rattle.qm_journal.proofs.Growing.{IsLawful-enter, IsNext-at, IsOfKind-within, IsParent-append, IsParent-within, position_of-new, position_of-old, position_of-start}
 use Rattle.qm_journal.proofs.Places.{some_at-get, some_at-of}
 use Rattle.qm_search.specs.Entering.{IsEnterable, MayHold}
-use Rattle.qm_search.specs.VisitSteps.{IsNotEntered, IsUntried, StandsFor, WentAt, WentBelow, game_entry}
+use Rattle.qm_search.specs.declared.state.Search.{Search}
+use Rattle.qm_search.specs.VisitSteps.{IsNotEntered, IsUntried, Moved, StandsFor, WentAsked, WentAt, WentBelow, game_entry}
+use Rattle.qm_search.proofs.JournalGoesOn.{asked_at}
 
 -- ---- what a number stands for
 
@@ -146,3 +148,13 @@ query_parent J (suc b) h = h
 pub new_question : (P : Problem) (J : List JEntry) (entry : ℕ) (prefix : List ℤ) (v : ℤ) → StandsFor J entry prefix → IsUniversalTurn P prefix → All (λ e. e ≢ query_entry entry v) J → IsNewQuestion P J entry (Some v)
 new_question P J entry prefix v stands turn new =
     (query_parent J entry stands.parent, subst (λ (p : Position). IsUniversalTurn P p.prefix) (sym stands.is) turn, new)
+
+-- the journal of a search goes on by the answer
+pub moved_asked : (P : Problem) (entry : ℕ) (v : ℤ) (old new : Search) → IsLawfulWith P (MayHold P) old.journal.entries → new.bx ≡ old.bx → new.journal.limit ≡ old.journal.limit → IsLawful P new.journal.entries
+    → WentOn entry (Some v) old.journal.entries new.journal.entries → Moved P (WentAsked entry v) old new
+moved_asked P entry v old new before same limit lawful went = record {
+  same = same;
+  limit = limit;
+  lawful = lawful_asked P (MayHold P) old.journal.entries new.journal.entries entry (Some v) before lawful went;
+  went = asked_at entry v old.journal.entries new.journal.entries went;
+}

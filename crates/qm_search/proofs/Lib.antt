@@ -13,3 +13,4 @@ pub mod EndBoxes
 pub mod LeafEnds
 pub mod JournalGoesOn
 pub mod EnteredJournals
+pub mod SearchPrefixes
