@@ -14,3 +14,6 @@ pub mod BoxPrefixes
 pub mod OpenBoxes
 pub mod EndBoxes
 pub mod LeafEnds
+pub mod JournalGoesOn
+pub mod EnteredJournals
+pub mod SearchPrefixes
