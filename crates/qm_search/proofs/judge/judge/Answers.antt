@@ -1,5 +1,5 @@
 use Rattle.std.proofs.Common.{[], eqb-true, length, subst, sym}
-use Rattle.qm_search.specs.OutcomeSteps.{IsOutcome, IsPlayed}
+use Rattle.qm_search.specs.OutcomeSteps.{IsOutcome}
 use Rattle.qm_search.proofs.EndBoxes.{end_entered, end_place, nothing_left}
 use Rattle.qm_search.proofs.judge.judge.Goals as goal
 
