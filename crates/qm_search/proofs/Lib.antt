@@ -14,3 +14,4 @@ pub mod LeafEnds
 pub mod JournalGoesOn
 pub mod EnteredJournals
 pub mod SearchPrefixes
+pub mod RootPlaces
