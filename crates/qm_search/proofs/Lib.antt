@@ -17,3 +17,4 @@ pub mod LeafEnds
 pub mod JournalGoesOn
 pub mod EnteredJournals
 pub mod SearchPrefixes
+pub mod RootPlaces
