@@ -17,4 +17,5 @@ pub mod LeafEnds
 pub mod JournalGoesOn
 pub mod EnteredJournals
 pub mod SearchPrefixes
+pub mod Visits
 pub mod RootPlaces
