@@ -1,14 +1,17 @@
 -- The steps of a visit: to a value behind its prefix, below that value, and on to the next.
-use Rattle.std.proofs.Common.{◌≡◌, ◌≢◌, ℕ, suc, ◌+◌, ◌<◌, List, [], ◌∷◌, ◌++◌, All, arith, ap, drop, length, length-drop, set, refl, sym, subst, ◌∙◌, ℤ, pos, ◌+ℤ◌}
+use Rattle.std.proofs.Common.{◌≡◌, ◌≢◌, ℕ, suc, ◌+◌, ◌<◌, Bool, true, false, List, [], ◌∷◌, ◌++◌, All, get_or, arith, ap, drop, length, length-drop, set, refl, sym, subst, ◌∙◌, ℤ, pos, ◌+ℤ◌}
 use Rattle.qm_math.specs.Ranges.{IsBetween}
 use Rattle.qm_model.specs.declared.range.Range.{Range}
+use Rattle.qm_model.specs.declared.variable.Player.TheVariants.{Exists, All as Universal}
 use Rattle.qm_model.specs.declared.variable.Var.{Var}
 use Rattle.qm_model.specs.declared.game.Problem.{Problem}
-use Rattle.qm_model.specs.Plays.{whole_vars}
+use Rattle.qm_model.specs.Plays.{is_universal, whole_vars}
 use Rattle.qm_model.specs.Ranges.{range_at, single}
+use Rattle.qm_model.proofs.Players.{by_player, is_for_all, not_universal}
 use Rattle.qm_game.proofs.NextVariables.{next_in_box}
 use Rattle.qm_journal.specs.declared.entry.JEntry.{JEntry}
 use Rattle.qm_journal.specs.Contents.{Contents}
+use Rattle.qm_legal.specs.SearchSteps.{SetsNext}
 use Rattle.qm_search.specs.declared.state.Search.{Search}
 use Rattle.qm_search.specs.Entering.{IsEnterable}
 use Rattle.qm_search.specs.JudgeSteps.{MayBeVisited}
@@ -137,3 +140,19 @@ module _ (P : Problem) (rest : List Var) (depth : ℕ) (search : Search) (entry 
     lawful = moved.lawful;
     went = entered_at entry v J next.journal.entries (subst (λ es. WentBelow (suc (length J)) es next.journal.entries) is moved.went);
   }
+
+-- ---- whose turn it is
+
+existential : (x : Var) → is_universal x ≡ false → x.player ≡ Exists
+existential x test = by_player x (x.player ≡ Exists) (λ e. e) (λ u. let both : true ≡ false = sym (is_for_all x u) ∙ test in cc)
+
+universal : (x : Var) → is_universal x ≡ true → x.player ≡ Universal
+universal x test = by_player x (x.player ≡ Universal) (λ e. let both : false ≡ true = sym (not_universal x e) ∙ test in cc) (λ u. u)
+
+pub existential_next : (rest : List Var) (x : Var) → 0 < length rest → is_universal (get_or rest 0 x) ≡ false → SetsNext Exists rest
+existential_next [] x some test = absurd (omega (arith, some))
+existential_next (y ∷ later) x some test = existential y test
+
+pub universal_next : (rest : List Var) (x : Var) → 0 < length rest → is_universal (get_or rest 0 x) ≡ true → SetsNext Universal rest
+universal_next [] x some test = absurd (omega (arith, some))
+universal_next (y ∷ later) x some test = universal y test
