@@ -1,30 +1,29 @@
 -- The end of a leaf run: its point is a leaf that reaches the value, and its combination refutes the rest.
-use Rattle.std.proofs.Common.{◌≡◌, ℕ, suc, ◌<◌, ◌≤◌, Bool, true, false, List, [], ◌∷◌, length, get_or, take, drop, All, arith, refl, sym, ap, subst, ◌∙◌, inr, Ok, Err}
-use Rattle.std.specs.Prelude.{Any, IsOk, Result, ◌⊎◌, if◌then◌else◌}
+use Rattle.std.proofs.Common.{◌≡◌, ℕ, suc, ◌≤◌, Bool, true, false, List, [], ◌∷◌, length, All, arith, refl, sym, ap, subst, ◌∙◌, inr, Ok, Err}
+use Rattle.std.specs.Prelude.{IsOk, if◌then◌else◌}
 use Rattle.std.specs.List.{list_any}
 use Rattle.std.proofs.lemmas.List.Elements.{All-cons, All-drop, All-nil}
-use Rattle.qm_math.specs.Fraction.{Fraction, HasPositiveDen, IsAtMost, IsSame, is_at_most, whole}
+use Rattle.qm_math.specs.Fraction.{Fraction, HasPositiveDen, is_at_most, whole}
 use Rattle.qm_math.proofs.FractionOrder.{at_most-same}
 use Rattle.qm_frac.specs.Checked.{Checked, and_then}
 use Rattle.qm_frac.specs.Lowest.{IsFrac}
 use Rattle.qm_model.specs.declared.range.Range.{Range}
 use Rattle.qm_model.specs.declared.row.Row.{Row}
 use Rattle.qm_model.specs.declared.game.Problem.{Problem}
-use Rattle.qm_model.specs.Boxes.{IsBox, IsEmptyRange}
+use Rattle.qm_model.specs.Boxes.{IsBox}
 use Rattle.qm_model.specs.Goals.{Goal, Any as AnyGoal, Above}
 use Rattle.qm_model.proofs.BoxLaws.{IsBox-length}
 use Rattle.qm_trees.specs.declared.combination.ComboValue.{ComboValue}
 use Rattle.qm_trees.specs.declared.policy.Policy.{Policy, Leaf, out-Policy}
 use Rattle.qm_trees.specs.declared.policy.Below.TheOpen as policy_node
 use Rattle.qm_trees.specs.declared.refutation.Refute.{Refute, Close}
-use Rattle.qm_trees.specs.Closing.{Closes, Excludes, closes_goal, closing, is_empty_range}
+use Rattle.qm_trees.specs.Closing.{Excludes, closes_goal, closing, is_empty_range}
 use Rattle.qm_trees.specs.Entries.{AreWellFormed, Combination, weighted_rows}
 use Rattle.qm_trees.specs.Evaluation.{bound_of, value_of}
 use Rattle.qm_trees.specs.Leaves.{leaf_objective, objective_reaches, row_holds, row_sum}
 use Rattle.qm_trees.specs.PolicyJudgement.{Layer}
 use Rattle.qm_trees.specs.PolicyRight.{IsEndInRange, IsLeafInRange, IsRightEnd}
 use Rattle.qm_trees.specs.RefuteRight.{AreNamed, IsCloseInRange}
-use Rattle.qm_trees.proofs.Lines.{bind_ok}
 use Rattle.qm_policy.proofs.Steps.{objective_reaches_by}
 use Rattle.qm_simplex.specs.declared.answers.LeavePlace.{LeavePlace}
 use Rattle.qm_simplex.specs.declared.answers.LeavePlace.TheVariants as place
@@ -35,7 +34,7 @@ use Rattle.qm_simplex.specs.LeafRuns.{combination_at, evaluated, leaf_point, obj
 use Rattle.qm_simplex.specs.Stops.{Located, located, then_at}
 use Rattle.qm_simplex.proofs.LeafPoints.{box_long, leaf_is_right}
 use Rattle.qm_search.specs.LeafSteps.{IsLawfulEnd, IsLeafEnd}
-use Rattle.qm_search.specs.OutcomeSteps.{IsOutcome, IsReached, Refutes, Secures}
+use Rattle.qm_search.specs.OutcomeSteps.{IsReached, Refutes, Secures}
 use Rattle.qm_search.specs.PlaceSteps.{IsEndPlace}
 use Rattle.qm_search.proofs.DeadRows.{refutes_from}
 use Rattle.qm_search.proofs.SetLeaves.{ends_at_once}
@@ -88,21 +87,21 @@ module _ (P : Problem) (bx : List Range) where
 module _ (P : Problem) (bx : List Range) (place : IsEndPlace P bx) (depth : ℕ) (combo : Combination) (form : AreWellFormed combo.entries) (named : AreNamed P [] combo.entries)
     (in_range : IsOk (combination_at P bx combo)) where
   -- a contradiction
-  pub void_outcome : (tree : Refute) → IsVoid P [] bx combo → tree ≡ Close combo → Refutes P [] depth bx AnyGoal tree
+  pub void_outcome : (tree : Refute) → IsVoid P [] bx combo → tree ≡ Close combo → Refutes P [] [] [] depth bx AnyGoal tree
   void_outcome tree void is =
       let closes : Excludes P combo.objective (weighted_rows P [] combo.entries) bx AnyGoal = rw void.objective void.contradicts in
-      refutes_from P depth bx AnyGoal combo tree form named (inr closes) (closing_ok P bx combo AnyGoal in_range) is
+      refutes_from P [] [] [] depth bx AnyGoal combo tree form named (inr closes) (closing_ok P bx combo AnyGoal in_range) is
 
   module _ (point : List Fraction) (value : Fraction) (best : IsBest P [] bx point value combo) (positive : HasPositiveDen value) where
     short : P.wholes ≤ length bx
     short = omega (arith, place.box.sound.wholes, IsBox-length P.vars bx place.box.box)
 
     -- nothing above the value is reached
-    best_refutes : (tree : Refute) → tree ≡ Close combo → Refutes P [] depth bx (Above value) tree
+    best_refutes : (tree : Refute) → tree ≡ Close combo → Refutes P [] [] [] depth bx (Above value) tree
     best_refutes tree is =
         let at_most = at_most-same (bound_of P (weighted_rows P [] combo.entries) bx) value best.bound in
         let closes : Excludes P combo.objective (weighted_rows P [] combo.entries) bx (Above value) = rw best.objective at_most in
-        refutes_from P depth bx (Above value) combo tree form named (inr closes) (closing_ok P bx combo (Above value) in_range) is
+        refutes_from P [] [] [] depth bx (Above value) combo tree form named (inr closes) (closing_ok P bx combo (Above value) in_range) is
 
     leaf_secures : (policy : Policy) → All IsFrac (leaf_point P point) → policy ≡ Leaf (leaf_point P point) → IsOk (rows_at P bx (leaf_point P point) 1 P.rows) → IsOk (objective_at P bx (leaf_point P point))
         → Secures P [] depth bx value policy
@@ -132,7 +131,7 @@ pub end_named : (P : Problem) (bx : List Range) (end : LpEnd) (combo : Combinati
 end_named P bx end combo lawful is = subst (λ (c : Combination). AreNamed P [] c.entries) is lawful.named
 
 pub void_end : (P : Problem) (bx : List Range) (depth : ℕ) (end : LpEnd) (combo : Combination) (tree : Refute) {pivots : ℕ} → IsEndPlace P bx → IsLeafEnd P bx end → end ≡ Void combo pivots
-    → AreWellFormed combo.entries → tree ≡ Close combo → Refutes P [] depth bx AnyGoal tree
+    → AreWellFormed combo.entries → tree ≡ Close combo → Refutes P [] [] [] depth bx AnyGoal tree
 void_end P bx depth end combo tree {pivots} place leaf is form closed =
     let this = subst (IsLeafEnd P bx) is leaf in
     let last : ComboValue → Located LpEnd = λ worth. Ok (Void combo pivots) in
@@ -141,7 +140,7 @@ void_end P bx depth end combo tree {pivots} place leaf is form closed =
 
 pub best_end : (P : Problem) (bx : List Range) (depth : ℕ) (end : LpEnd) (point : List Fraction) (value : Fraction) (combo : Combination) (policy : Policy) (tree : Refute) {pivots : ℕ}
     → IsEndPlace P bx → IsLeafEnd P bx end → end ≡ Best point value combo pivots → AreWellFormed combo.entries → All IsFrac point → HasPositiveDen value → policy ≡ Leaf (leaf_point P point) → tree ≡ Close combo
-    → IsReached P [] depth bx value policy tree
+    → IsReached P [] [] [] depth bx value policy tree
 best_end P bx depth end point value combo policy tree {pivots} place leaf is form fracs positive ends closed =
     let this = subst (IsLeafEnd P bx) is leaf in
     let y = leaf_point P point in

@@ -5,7 +5,7 @@ ghost use Rattle.qm_model.specs.declared.row.Row.{Row};
 ghost use Rattle.qm_model.specs.declared.variable.Player.TheVariants.{All as Universal};
 ghost use Rattle.qm_model.specs.declared.variable.Var.{Var};
 ghost use Rattle.qm_model.specs.Ranges.{range_at, single};
-ghost use Rattle.qm_trees.specs.declared.policy.Below.{out-Below};
+ghost use Rattle.qm_trees.specs.declared.policy.Below.TheOpen as node;
 ghost use Rattle.qm_trees.specs.PolicyJudgement.{below_of, range_of};
 ghost use Rattle.qm_trees.specs.RefuteJudgement.{Head};
 ghost use Rattle.qm_legal.specs.SearchSteps.{SetsNext};
@@ -70,9 +70,7 @@ impl Answers {
         ensures { (P : Problem) (cuts : List Row) (heads : List Head) (rest : List Var) (depth : ℕ) (bx : List Range) (W : Window) (first low : ℤ) → AreAnswers P cuts heads rest depth bx W first low at self → IsReply P cuts heads rest depth bx (answer_window W self.worst) first at (Illegal tree) → IfOk result (AreAnswers P cuts heads rest depth bx W first low (at +ℤ pos 1)) }
     {
         let Answers { worst, mut parts } = self;
-        parts
-            .push(part(at, Below::Illegal(tree)))
-            .map_err(|_| Memory)?;
+        parts.push(illegal_part(at, tree)).map_err(|_| Memory)?;
         Ok(Answers { worst, parts })
     }
 
@@ -81,7 +79,7 @@ impl Answers {
         ensures { (P : Problem) (cuts : List Row) (heads : List Head) (rest : List Var) (depth : ℕ) (bx : List Range) (W : Window) (first low : ℤ) → AreAnswers P cuts heads rest depth bx W first low at self → IsReply P cuts heads rest depth bx (answer_window W self.worst) first at (Secured policy) → IfOk result (AreAnswers P cuts heads rest depth bx W first low (at +ℤ pos 1)) }
     {
         let Answers { worst, mut parts } = self;
-        parts.push(part(at, Below::On(policy))).map_err(|_| Memory)?;
+        parts.push(part(at, policy)).map_err(|_| Memory)?;
         Ok(Answers { worst, parts })
     }
 
@@ -99,7 +97,7 @@ impl Answers {
             worst: _,
             mut parts,
         } = self;
-        parts.push(part(at, Below::On(policy))).map_err(|_| Memory)?;
+        parts.push(part(at, policy)).map_err(|_| Memory)?;
         let worst = Worst { value, refute };
         Ok(Answers {
             worst: Some(worst),
@@ -158,13 +156,24 @@ fn over(cap: Option<Frac>, policy: Policy) -> Outcome
     }
 }
 
-/// The part of this value alone, with what stands below it.
-fn part(value: i64, below: Below) -> PolicyPart
+/// The part of this value alone, with a policy.
+fn part(value: i64, below: Policy) -> PolicyPart
     ensures range { range_of result ≡ single value }
-    ensures below { below_of result ≡ out-Below below }
+    ensures below { below_of result ≡ node.On below }
 {
     PolicyPart {
         range: single(value),
-        below,
+        below: Below::On(below),
+    }
+}
+
+/// The part of this value alone, which no universal play has.
+fn illegal_part(value: i64, tree: Empty) -> PolicyPart
+    ensures range { range_of result ≡ single value }
+    ensures below { below_of result ≡ node.Illegal tree }
+{
+    PolicyPart {
+        range: single(value),
+        below: Below::Illegal(tree),
     }
 }

@@ -1,6 +1,8 @@
 ghost use Rattle.std.specs.Prelude.{◌<◌, IfErr, IfOk, Option, length};
 ghost use Rattle.qm_math.specs.Fraction.{Fraction};
+ghost use Rattle.qm_game.specs.Goals.{goal_of};
 ghost use Rattle.qm_model.specs.Boxes.{IsBox};
+ghost use Rattle.qm_model.specs.Goals.{IsProper};
 ghost use Rattle.qm_search.specs.JudgeSteps.{IsClear, IsJudged};
 ghost use Rattle.qm_search.specs.PlaceSteps.{IsJudgePlace};
 ghost use Rattle.qm_search.specs.StopSteps.{IsLeafStop};
@@ -26,6 +28,15 @@ pub enum Judged {
     Open(Option<BestPoint>),
 }
 
+/// A value that is to be exceeded has a positive denominator.
+fn floor_is_proper(floor: &Goal)
+    ensures { IsProper (goal_of floor.now) }
+{
+    if let Goal::Above(most) = floor {
+        let _positive = most.den();
+    }
+}
+
 /// What the relaxation tells of a clear box in which some whole variable is still to be set.
 fn judged_by_relaxation(
     alloc: Global,
@@ -38,8 +49,15 @@ fn judged_by_relaxation(
     requires clear { IsClear here.game.now bx.now }
     ensures { (cap : Option Fraction) → IfOk result (IsJudged here.entry.game.now here.entry.rest.now here.entry.depth bx.now (record { floor = floor.now; cap = cap })) }
 {
+    // that the problem is in order
+    let _problem = here.game.problem();
+    floor_is_proper(floor);
     match relax_point(alloc, here.game, bx, floor)? {
-        RelaxedPoint::Closed(combo) => Ok(Judged::Known(Outcome::Under(Refute::Close(combo)))),
+        RelaxedPoint::Closed(combo) => {
+            // that it is well formed
+            let _form = combo.entries();
+            Ok(Judged::Known(Outcome::Under(Refute::Close(combo))))
+        }
         RelaxedPoint::Bound(best) => Ok(Judged::Open(Some(best))),
         RelaxedPoint::NoBound(_) => Ok(Judged::Open(None)),
     }
