@@ -1,26 +1,22 @@
 -- Where the search begins, and what is told in the end.
-use Rattle.std.proofs.Common.{◌≡◌, ◌∙◌, sym, subst, ℕ, ◌+◌, ◌<◌, ◌≤◌, arith, List, [], length, ℤ}
+use Rattle.std.proofs.Common.{◌≡◌, ◌∙◌, refl, sym, subst, ℕ, ◌+◌, ◌≤◌, arith, List, [], length, None, ℤ}
 use Rattle.qm_model.specs.declared.game.Problem.{Problem}
 use Rattle.qm_model.specs.Legal.{IsLegal}
-use Rattle.qm_model.specs.Plays.{IsPlay, whole_vars}
+use Rattle.qm_model.specs.Plays.{whole_vars}
 use Rattle.qm_model.proofs.LegalMoves.{universal_part-none}
 use Rattle.qm_model.proofs.Legality.{legal_of_play}
 use Rattle.qm_journal.specs.Contents.{Contents}
+use Rattle.qm_journal.specs.Lawful.{IsLawful}
+use Rattle.qm_journal.specs.Questions.{WentOn}
 use Rattle.qm_journal.proofs.Counting.{lawful_below_enough}
 use Rattle.qm_search.specs.declared.state.Search.{Search}
-use Rattle.qm_search.specs.declared.stop.Stop.{Stop}
-use Rattle.qm_search.specs.declared.stop.Stop.TheVariants as stop
 use Rattle.qm_search.specs.Faults.{IsSpent, IsWithinBudget}
 use Rattle.qm_search.specs.PlaceSteps.{AreEntered, IsJudgePlace, IsSearchBox}
-use Rattle.qm_search.specs.RootSteps.{IsPlayed, all_values}
-use Rattle.qm_search.specs.StopSteps.{IsFull, IsLeafStop, IsRightStop}
+use Rattle.qm_search.specs.RootSteps.{IsPlayed}
+use Rattle.qm_search.specs.StopSteps.{IsFull}
 use Rattle.qm_search.specs.VisitSteps.{IsVisitPlace}
-use Rattle.qm_search.specs.Windows.{IsProperWindow}
 use Rattle.qm_search.proofs.EnteredJournals.{first_lawful, first_stands, first_untried}
 use Rattle.qm_search.proofs.SearchBoxes.{first_box}
-
-pub all_proper : IsProperWindow all_values
-all_proper = record { floor = tt; cap = tt }
 
 -- no prefix is shorter than the first but the empty one
 none_shorter : (P : Problem) (depth : ℕ) (search : Search) → depth ≤ 1 → AreEntered P depth search.bx
@@ -47,13 +43,19 @@ module _ (P : Problem) (search : Search) (values : List ℤ) (here : IsPlayed P 
     untried = first_untried search.journal.entries here.asked;
   }
 
--- ---- what is told in the end
+  -- the journal so far
+  pub root_within : length search.journal.entries ≤ search.journal.limit → IsWithinBudget P search.journal.limit search.journal
+  root_within few = record { limit = refl; few = few; lawful = first_lawful P search.journal.entries here.lawful here.asked }
 
--- a leaf needs no entry
-pub stop_of_leaf : (P : Problem) (J : Contents) (why : Stop) → IsLeafStop P why → IsRightStop P J why
-stop_of_leaf P J stop.Spent right = absurd right
-stop_of_leaf P J (stop.Leave leave) right = right
-stop_of_leaf P J stop.Memory right = tt
+-- the journal after the first question
+pub asked_within : (P : Problem) (J K : Contents) → J.entries ≡ [] → IsLawful P K.entries → WentOn 0 None J.entries K.entries → K.limit ≡ J.limit → length K.entries ≤ K.limit → IsWithinBudget P J.limit K
+asked_within P J K none lawful went limit few = record {
+  limit = limit;
+  few = omega (arith, limit, few);
+  lawful = first_lawful P K.entries lawful (subst (λ es. WentOn 0 None es K.entries) none went);
+}
+
+-- ---- what is told in the end
 
 -- a full journal spends the budget, which is less than what is always enough
 pub spent_budget : (P : Problem) (budget : ℕ) (J : Contents) → IsWithinBudget P budget J → IsFull J → IsSpent P budget J

@@ -10,7 +10,8 @@ use Rattle.qm_legal.specs.Queries.{IsQueryOf, IsRightLegality}
 use Rattle.qm_legal.proofs.Places.{some_next}
 use Rattle.qm_search.proofs.EnteredJournals.{moved_asked, new_question}
 use Rattle.qm_search.proofs.SearchBoxes.{next_box}
-use Rattle.qm_search.proofs.SearchPrefixes.{prefix_length, prefix_more, prefix_query, prefix_turn}
+use Rattle.qm_search.proofs.BoxPrefixes.{prefix_long}
+use Rattle.qm_search.proofs.SearchPrefixes.{prefix_more, prefix_query, prefix_turn}
 use Rattle.qm_search.specs.PlaceSteps.{prefix_before}
 use Rattle.qm_search.proofs.legality.legality.Goals as goal
 
@@ -50,7 +51,7 @@ put-requires-2-clause-bx c =
 pub returns-in_err-answer-clause-moved : goal.returns-in_err-answer-clause-moved
 returns-in_err-answer-clause-moved c =
     let back = put_back c.args.search.now.bx c.put.new.bx c.put.new.bx c.put-2.new.bx c.args.here.depth c.single.result c.range-before.result
-        c.put.ensures refl c.put-2.ensures c.range-before.ensures in
+    c.put.ensures refl c.put-2.ensures c.range-before.ensures in
     let went = rw (to_z-of_z w64 c.args.value c.ranges.value) at c.legal-answer.ensures.went_on in
     moved_asked c.args.here.game.now c.args.entry c.args.value c.args.search.now (record { bx = c.put-2.new.bx; journal = c.legal-answer.new.journal })
     c.requires.place.value.lawful back c.legal-answer.ensures.limit c.legal-answer.ensures.lawful went
@@ -64,7 +65,7 @@ returns-clause-legality c =
     let place = c.requires.place.value in
     let prefix = (position_of c.args.search.now.journal.entries c.args.entry).prefix in
     let same : prefix ≡ prefix_before depth bx = ap (λ (p : Position). p.prefix) place.stands.is in
-    let long : length (prefix ++ v ∷ []) ≡ depth + 1 = omega (arith, length-append prefix (v ∷ []), ap length same, prefix_length P depth bx place.box) in
+    let long : length (prefix ++ v ∷ []) ≡ depth + 1 = omega (arith, length-append prefix (v ∷ []), ap length same, prefix_long P depth bx place.box) in
     let right = rw (to_z-of_z w64 v c.ranges.value) at c.in_ok-answer.ensures.answer in
     let ranges = c.put.ensures ∙ ap (λ r. set bx depth r) (c.single.ensures ∙ ap single (to_z-of_z w64 v c.ranges.value)) in
     subst (λ rs. IsRightLegality P (depth + 1) rs c.in_ok-answer.field-0) ranges
@@ -73,7 +74,7 @@ returns-clause-legality c =
 pub returns-clause-moved : goal.returns-clause-moved
 returns-clause-moved c =
     let back = put_back c.args.search.now.bx c.put.new.bx c.put.new.bx c.put-2.new.bx c.args.here.depth c.single.result c.range-before.result
-        c.put.ensures refl c.put-2.ensures c.range-before.ensures in
+    c.put.ensures refl c.put-2.ensures c.range-before.ensures in
     let went = rw (to_z-of_z w64 c.args.value c.ranges.value) at c.legal-answer.ensures.went_on in
     moved_asked c.args.here.game.now c.args.entry c.args.value c.args.search.now (record { bx = c.put-2.new.bx; journal = c.legal-answer.new.journal })
     c.requires.place.value.lawful back c.legal-answer.ensures.limit c.legal-answer.ensures.lawful went
