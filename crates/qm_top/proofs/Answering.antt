@@ -117,17 +117,16 @@ bytes_answered law read status text bytes told still solves = record {
 
 complete_answer : OneDecimal → (words : List (List ℕ)) (read : Reading) (status : ℕ) (text : List ℕ) → IsAnswer words read status text → IsDueTo words read status text
 complete_answer law words read status text (misused none unread is line) =
-    record { misused = λ no. (is, line); solve = λ bytes asks told still. absurd (none Solve asks) }
-complete_answer law words read status text (solved asks solves) =
-    record { misused = λ no. absurd (no Solve asks); solve = λ bytes also told still. bytes_answered law read status text bytes told still solves }
+    record { misused = λ no. (is, line); solve = λ nodes bytes asks told still. absurd (none (Solve nodes) asks) }
+complete_answer law words read status text (solved nodes asks solves) =
+    record { misused = λ no. absurd (no (Solve nodes) asks); solve = λ others bytes also told still. bytes_answered law read status text bytes told still solves }
 
 -- the sink took the text of a report
-pub complete_report : OneDecimal → (before after : Option (List ℕ)) (words : List (List ℕ)) (read : Reading) (status due : ℕ) (text told : List ℕ)
-    → IsAnswer words read due told → status ≡ due → text ≡ told → Appends before after text
+pub complete_report : OneDecimal → (before after : Option (List ℕ)) (words : List (List ℕ)) (read : Reading) (status due : ℕ) (text : List ℕ)
+    → IsAnswer words read due text → status ≡ due → Appends before after text
     → (taken : List ℕ) × Appends before after taken × IsDueTo words read status taken
-complete_report law before after words read status due text told answer is same taken =
-    let with_text : IsAnswer words read due text = subst (λ t. IsAnswer words read due t) (sym same) answer in
-    (text, taken, complete_answer law words read status text (subst (λ n. IsAnswer words read n text) (sym is) with_text))
+complete_report law before after words read status due text answer is taken =
+    (text, taken, complete_answer law words read status text (subst (λ n. IsAnswer words read n text) (sym is) answer))
 
 -- a fault of scope or of a limit that is told isn't want of memory
 told_form : (ast : Ast) (fault : NormalFault) (status : ℕ) (text : List ℕ) → Gives (Err fault) (normal_form ast) → TellsNormal fault status text → normal_form ast ≡ Err fault
@@ -158,7 +157,3 @@ game_answered bytes others told P same is states status text solves = stated P (
 -- a report, by its status and its text
 abbrev pub Reports : (ℕ → List ℕ → Type 0) → Report → Type 0
 Reports P report = P (status_of report) (text_of report)
-
--- there is one command
-pub asks_solve : (command : Command) (words : List (List ℕ)) → Asks command words → Asks Solve words
-asks_solve Solve words asks = asks

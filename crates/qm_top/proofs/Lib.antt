@@ -1,4 +1,6 @@
 pub mod TwoWords
+pub mod Budgets
+pub mod Underway
 pub mod OneCertificate
 pub mod Refusals
 pub mod Answering

@@ -18,7 +18,7 @@ use Rattle.qm_top.specs.declared.command.Command.{Command}
 use Rattle.qm_top.specs.declared.command.Command.TheVariants.{Solve}
 use Rattle.qm_top.specs.Words.{Asks}
 use Rattle.qm_top.specs.LeaveLines.{leave_text}
-use Rattle.qm_top.specs.Lines.{line}
+use Rattle.qm_top.specs.Lines.{line, usage}
 use Rattle.qm_top.specs.Refusals.{Refuses}
 
 -- what became of a source: the bytes that it had left and has left, where it tells them, and its faults
@@ -71,8 +71,8 @@ pub data Solves (read : Reading) (status : ℕ) (text : List ℕ) : Type 0 where
 
 -- The answers, by command. Where the words are none of the forms, nothing is read and the usage is told.
 pub data IsAnswer (words : List (List ℕ)) (problem : Reading) (status : ℕ) (text : List ℕ) : Type 0 where
-  misused : ((command : Command) → ¬ Asks command words) → IsUnread problem → status ≡ 2 → text ≡ line (codes "usage: qyas solve FILE") → IsAnswer words problem status text
-  solved : Asks Solve words → Solves problem status text → IsAnswer words problem status text
+  misused : ((command : Command) → ¬ Asks command words) → IsUnread problem → status ≡ 2 → text ≡ usage → IsAnswer words problem status text
+  solved : (nodes : ℕ) → Asks (Solve nodes) words → Solves problem status text → IsAnswer words problem status text
 
 -- the sink took exactly the text that goes with this status
 pub record Took (before after : Option (List ℕ)) (words : List (List ℕ)) (problem : Reading) (status : ℕ) : Type 0 where

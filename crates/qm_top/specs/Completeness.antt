@@ -6,7 +6,7 @@ use Rattle.qm_normal.specs.Stated.{States}
 use Rattle.qm_top.specs.declared.command.Command.{Command}
 use Rattle.qm_top.specs.declared.command.Command.TheVariants.{Solve}
 use Rattle.qm_top.specs.Answers.{Claims, Reading, SolvesProblem}
-use Rattle.qm_top.specs.Lines.{line}
+use Rattle.qm_top.specs.Lines.{line, usage}
 use Rattle.qm_top.specs.Refusals.{Refuses}
 use Rattle.qm_top.specs.Words.{Asks}
 
@@ -29,5 +29,5 @@ pub record IsDue (bytes : List ℕ) (status : ℕ) (text : List ℕ) : Type 0 wh
 
 -- the same by the words; where they are no form, the source tells nothing about the answer
 pub record IsDueTo (words : List (List ℕ)) (problem : Reading) (status : ℕ) (text : List ℕ) : Type 0 where
-  pub misused : ((command : Command) → ¬ Asks command words) → IsReport 2 (line (codes "usage: qyas solve FILE")) status text
-  pub solve : (bytes : List ℕ) → Asks Solve words → problem.before ≡ Some bytes → ¬ Rose problem.faults_before problem.faults_after → IsDue bytes status text
+  pub misused : ((command : Command) → ¬ Asks command words) → IsReport 2 usage status text
+  pub solve : (nodes : ℕ) (bytes : List ℕ) → Asks (Solve nodes) words → problem.before ≡ Some bytes → ¬ Rose problem.faults_before problem.faults_after → IsDue bytes status text
