@@ -35,7 +35,7 @@ use Rattle.qm_simplex.specs.LeafRuns.{combination_at, evaluated, leaf_point, obj
 use Rattle.qm_simplex.specs.Stops.{Located, located, then_at}
 use Rattle.qm_simplex.proofs.LeafPoints.{box_long, leaf_is_right}
 use Rattle.qm_search.specs.LeafSteps.{IsLawfulEnd, IsLeafEnd}
-use Rattle.qm_search.specs.OutcomeSteps.{IsOutcome, IsReached, Refutes, Secures}
+use Rattle.qm_search.specs.OutcomeSteps.{IsReached, Refutes, Secures}
 use Rattle.qm_search.specs.PlaceSteps.{IsEndPlace}
 use Rattle.qm_search.proofs.DeadRows.{refutes_from}
 use Rattle.qm_search.proofs.SetLeaves.{ends_at_once}
@@ -88,21 +88,21 @@ module _ (P : Problem) (bx : List Range) where
 module _ (P : Problem) (bx : List Range) (place : IsEndPlace P bx) (depth : ℕ) (combo : Combination) (form : AreWellFormed combo.entries) (named : AreNamed P [] combo.entries)
     (in_range : IsOk (combination_at P bx combo)) where
   -- a contradiction
-  pub void_outcome : (tree : Refute) → IsVoid P [] bx combo → tree ≡ Close combo → Refutes P [] depth bx AnyGoal tree
+  pub void_outcome : (tree : Refute) → IsVoid P [] bx combo → tree ≡ Close combo → Refutes P [] [] [] depth bx AnyGoal tree
   void_outcome tree void is =
       let closes : Excludes P combo.objective (weighted_rows P [] combo.entries) bx AnyGoal = rw void.objective void.contradicts in
-      refutes_from P depth bx AnyGoal combo tree form named (inr closes) (closing_ok P bx combo AnyGoal in_range) is
+      refutes_from P [] [] [] depth bx AnyGoal combo tree form named (inr closes) (closing_ok P bx combo AnyGoal in_range) is
 
   module _ (point : List Fraction) (value : Fraction) (best : IsBest P [] bx point value combo) (positive : HasPositiveDen value) where
     short : P.wholes ≤ length bx
     short = omega (arith, place.box.sound.wholes, IsBox-length P.vars bx place.box.box)
 
     -- nothing above the value is reached
-    best_refutes : (tree : Refute) → tree ≡ Close combo → Refutes P [] depth bx (Above value) tree
+    best_refutes : (tree : Refute) → tree ≡ Close combo → Refutes P [] [] [] depth bx (Above value) tree
     best_refutes tree is =
         let at_most = at_most-same (bound_of P (weighted_rows P [] combo.entries) bx) value best.bound in
         let closes : Excludes P combo.objective (weighted_rows P [] combo.entries) bx (Above value) = rw best.objective at_most in
-        refutes_from P depth bx (Above value) combo tree form named (inr closes) (closing_ok P bx combo (Above value) in_range) is
+        refutes_from P [] [] [] depth bx (Above value) combo tree form named (inr closes) (closing_ok P bx combo (Above value) in_range) is
 
     leaf_secures : (policy : Policy) → All IsFrac (leaf_point P point) → policy ≡ Leaf (leaf_point P point) → IsOk (rows_at P bx (leaf_point P point) 1 P.rows) → IsOk (objective_at P bx (leaf_point P point))
         → Secures P [] depth bx value policy
@@ -132,7 +132,7 @@ pub end_named : (P : Problem) (bx : List Range) (end : LpEnd) (combo : Combinati
 end_named P bx end combo lawful is = subst (λ (c : Combination). AreNamed P [] c.entries) is lawful.named
 
 pub void_end : (P : Problem) (bx : List Range) (depth : ℕ) (end : LpEnd) (combo : Combination) (tree : Refute) {pivots : ℕ} → IsEndPlace P bx → IsLeafEnd P bx end → end ≡ Void combo pivots
-    → AreWellFormed combo.entries → tree ≡ Close combo → Refutes P [] depth bx AnyGoal tree
+    → AreWellFormed combo.entries → tree ≡ Close combo → Refutes P [] [] [] depth bx AnyGoal tree
 void_end P bx depth end combo tree {pivots} place leaf is form closed =
     let this = subst (IsLeafEnd P bx) is leaf in
     let last : ComboValue → Located LpEnd = λ worth. Ok (Void combo pivots) in
@@ -141,7 +141,7 @@ void_end P bx depth end combo tree {pivots} place leaf is form closed =
 
 pub best_end : (P : Problem) (bx : List Range) (depth : ℕ) (end : LpEnd) (point : List Fraction) (value : Fraction) (combo : Combination) (policy : Policy) (tree : Refute) {pivots : ℕ}
     → IsEndPlace P bx → IsLeafEnd P bx end → end ≡ Best point value combo pivots → AreWellFormed combo.entries → All IsFrac point → HasPositiveDen value → policy ≡ Leaf (leaf_point P point) → tree ≡ Close combo
-    → IsReached P [] depth bx value policy tree
+    → IsReached P [] [] [] depth bx value policy tree
 best_end P bx depth end point value combo policy tree {pivots} place leaf is form fracs positive ends closed =
     let this = subst (IsLeafEnd P bx) is leaf in
     let y = leaf_point P point in

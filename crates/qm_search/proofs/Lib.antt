@@ -1,5 +1,6 @@
 pub mod SingleParts
 pub mod BelowTests
+pub mod HarderGoals
 pub mod ChoiceLaws
 pub mod AnswerLaws
 pub mod SearchBoxes
@@ -9,5 +10,7 @@ pub mod WholeBound
 pub mod DeadRows
 pub mod SetLeaves
 pub mod LeafRows
+pub mod BoxPrefixes
+pub mod OpenBoxes
 pub mod EndBoxes
 pub mod LeafEnds

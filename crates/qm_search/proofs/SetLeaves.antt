@@ -4,6 +4,7 @@ use Rattle.std.proofs.lemmas.List.Elements.{All-nil}
 use Rattle.qm_math.specs.Fraction.{Fraction}
 use Rattle.qm_frac.specs.Lowest.{IsFrac}
 use Rattle.qm_model.specs.declared.range.Range.{Range}
+use Rattle.qm_model.specs.declared.variable.Var.{Var}
 use Rattle.qm_model.specs.declared.game.Problem.{Problem}
 use Rattle.qm_model.specs.Boxes.{IsBox}
 use Rattle.qm_model.specs.Goals.{Above}
@@ -51,6 +52,6 @@ module _ (P : Problem) (depth : ℕ) (bx : List Range) (sound : IsSound P) (box 
       }
 
   -- the objective alone refutes anything above its bound
-  pub objective_refutes : (tree : Refute) → tree ≡ Close (record { objective = true; entries = [] }) → Refutes P [] depth bx (Above b) tree
-  objective_refutes tree closed =
-      refutes_by P depth bx (Above b) (record { objective = true; entries = [] }) tree sound bound_den (tt, All-nil (λ (e : Entry). IsFrac e.by)) (All-nil _) (objective_closes P bx b is) closed
+  pub objective_refutes : (rest : List Var) (tree : Refute) → tree ≡ Close (record { objective = true; entries = [] }) → Refutes P [] [] rest depth bx (Above b) tree
+  objective_refutes rest tree closed =
+      refutes_by P [] [] rest depth bx (Above b) (record { objective = true; entries = [] }) tree sound bound_den (tt, All-nil (λ (e : Entry). IsFrac e.by)) (All-nil _) (objective_closes P bx b is) closed

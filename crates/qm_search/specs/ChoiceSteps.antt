@@ -1,46 +1,56 @@
 -- Steps of the search: the choices of an existential variable, as far as they have been tried.
-use Rattle.std.specs.Prelude.{◌<◌, ℕ, ◌+◌, ℤ, ◌≤ℤ◌, ◌<ℤ◌, Bool, true, List, All, map, slice_set, Option, Some, None, if◌then◌else◌}
-use Rattle.qm_math.specs.Fraction.{Fraction, is_below}
+use Rattle.std.specs.Prelude.{ℕ, ◌+◌, ℤ, ◌≤ℤ◌, ◌<ℤ◌, List, All, map, slice_set, Option, Some, None}
+use Rattle.qm_math.specs.Fraction.{Fraction, HasPositiveDen}
+use Rattle.qm_game.specs.declared.goal.Goal.{Goal}
+use Rattle.qm_game.specs.declared.goal.Goal.TheVariants.{Above}
+use Rattle.qm_game.specs.Goals.{goal_of}
 use Rattle.qm_model.specs.declared.range.Range.{Range}
+use Rattle.qm_model.specs.declared.row.Row.{Row}
 use Rattle.qm_model.specs.declared.variable.Var.{Var}
 use Rattle.qm_model.specs.declared.game.Problem.{Problem}
-use Rattle.qm_model.specs.Goals.{Goal, Any, Above}
+use Rattle.qm_model.specs.Goals.{Reaches}
 use Rattle.qm_model.specs.Ranges.{single}
-use Rattle.qm_trees.specs.RefuteJudgement.{range_of, below_of}
+use Rattle.qm_trees.specs.RefuteJudgement.{Head, range_of, below_of}
 use Rattle.qm_search.specs.declared.choices.Best.{Best}
 use Rattle.qm_search.specs.declared.choices.Choices.{Choices}
-use Rattle.qm_search.specs.OutcomeSteps.{Secures, Refutes}
+use Rattle.qm_search.specs.declared.choices.Tried.{Tried}
+use Rattle.qm_search.specs.declared.choices.Tried.TheVariants.{Enough, More}
+use Rattle.qm_search.specs.declared.window.Window.{Window}
+use Rattle.qm_search.specs.OutcomeSteps.{IsOutcome, Refutes, Secures}
 use Rattle.qm_search.specs.PartSteps.{AreSingles}
+use Rattle.qm_search.specs.Windows.{IsUncapped}
 
--- the goal that no choice so far reaches
-abbrev pub goal_beyond : Option Best → Goal
-goal_beyond None = Any
-goal_beyond (Some best) = Above best.value
+-- the floor that no choice so far reaches: that of the window, until a choice has reached it
+abbrev pub floor_beyond : Goal → Option Best → Goal
+floor_beyond floor None = floor
+floor_beyond floor (Some best) = Above best.value
 
--- the value is above the best so far
-abbrev pub is_better : Fraction → Option Best → Bool
-is_better value None = true
-is_better value (Some best) = is_below best.value value
+-- the window of the next choice
+abbrev pub choice_window : Window → Option Best → Window
+choice_window W best = record { floor = floor_beyond W.floor best; cap = W.cap }
 
--- the better of the two, and the earlier where they are the same
-abbrev pub better_of : Option Best → Best → Option Best
-better_of best found = if is_better found.value best then Some found else best
-
--- the choice has been tried, and below it the policy reaches the value
-pub record IsTried (P : Problem) (later : List Var) (depth : ℕ) (bx : List Range) (low next : ℤ) (best : Best) : Type 0 where
-  pub positive : 0 < best.value.den
+-- the choice has been tried: its value lies in the window, and the policy below it secures it
+pub record IsTried (P : Problem) (later : List Var) (depth : ℕ) (bx : List Range) (W : Window) (low next : ℤ) (best : Best) : Type 0 where
+  pub positive : HasPositiveDen best.value
   pub from : low ≤ℤ best.choice
   pub before : best.choice <ℤ next
   pub secures : Secures P later (depth + 1) (slice_set bx depth (single best.choice)) best.value best.policy
+  pub reaches : Reaches best.value (goal_of W.floor)
+  pub uncapped : IsUncapped W.cap best.value
 
 -- where there is a best, it has been tried
-abbrev pub IsBest : Problem → List Var → ℕ → List Range → ℤ → ℤ → Option Best → Type 0
-IsBest P later depth bx low next None = Unit {0}
-IsBest P later depth bx low next (Some best) = IsTried P later depth bx low next best
+abbrev pub IsBest : Problem → List Var → ℕ → List Range → Window → ℤ → ℤ → Option Best → Type 0
+IsBest P later depth bx W low next None = Unit {0}
+IsBest P later depth bx W low next (Some best) = IsTried P later depth bx W low next best
 
 -- The values from `low` up to before `next` of the variable at the depth have been tried, where `later` are still to be
--- set behind it: the best is reached, and below each value the goal beyond it is refuted.
-pub record AreChoices (P : Problem) (later : List Var) (depth : ℕ) (bx : List Range) (low next : ℤ) (choices : Choices) : Type 0 where
+-- set behind it: the best is secured, and below each value the floor beyond it is refuted.
+pub record AreChoices (P : Problem) (cuts : List Row) (heads : List Head) (later : List Var) (depth : ℕ) (bx : List Range) (W : Window) (low next : ℤ) (choices : Choices) : Type 0 where
   pub singles : AreSingles low next (map range_of choices.parts)
-  pub below : All (λ part. Refutes P later (depth + 1) (slice_set bx depth (range_of part)) (goal_beyond choices.best) (below_of part)) choices.parts
-  pub best : IsBest P later depth bx low next choices.best
+  pub below : All (λ part. Refutes P cuts heads later (depth + 1) (slice_set bx depth (range_of part)) (goal_of (floor_beyond W.floor choices.best)) (below_of part)) choices.parts
+  pub best : IsBest P later depth bx W low next choices.best
+
+-- a choice is enough, or there is one choice more
+abbrev pub IsTrial : Problem → List Row → List Head → List Var → List Var → ℕ → List Range → Window → ℤ → ℤ → Tried → Type 0
+IsTrial P cuts heads rest later depth bx W low next (Enough outcome) = IsOutcome P cuts heads rest depth bx W outcome
+IsTrial P cuts heads rest later depth bx W low next (More choices) = AreChoices P cuts heads later depth bx W low next choices

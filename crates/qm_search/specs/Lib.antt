@@ -1,7 +1,13 @@
+pub mod Windows
 pub mod OutcomeSteps
 pub mod PartSteps
 pub mod ChoiceSteps
 pub mod AnswerSteps
+pub mod Entering
 pub mod PlaceSteps
+pub mod VisitSteps
 pub mod LeafSteps
+pub mod JudgeSteps
+pub mod StopSteps
+pub mod RootSteps
 pub mod Faults

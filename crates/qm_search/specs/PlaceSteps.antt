@@ -1,5 +1,5 @@
 -- Steps of the search: the boxes on its way, and what completes the values that are set in them.
-use Rattle.std.specs.Prelude.{◌≡◌, ◌≤◌, ℕ, ℤ, pos, List, [], ◌∷◌, ◌++◌, All, drop, length, map, take}
+use Rattle.std.specs.Prelude.{◌≡◌, ◌≤◌, ◌<◌, ℕ, ℤ, pos, List, [], ◌∷◌, ◌++◌, All, drop, length, map, take}
 use Rattle.qm_model.specs.declared.range.Range.{Range}
 use Rattle.qm_model.specs.declared.game.Problem.{Problem}
 use Rattle.qm_model.specs.Boxes.{IsBox, whole_box_of}
@@ -7,6 +7,7 @@ use Rattle.qm_model.specs.Legal.{IsLegal}
 use Rattle.qm_model.specs.Plays.{IsPlay}
 use Rattle.qm_model.specs.Sound.{IsSound}
 use Rattle.qm_legal.specs.Queries.{low_of, set_values}
+use Rattle.qm_search.specs.Entering.{IsEnterable}
 
 -- the range of one value
 abbrev pub IsSingle : Range → Type 0
@@ -29,9 +30,23 @@ pub record IsSearchPlace (P : Problem) (depth : ℕ) (bx : List Range) (completi
   pub box : IsSearchBox P depth bx
   pub completes : Completes P depth bx completion
 
--- the values that are set where all whole variables are
+-- the values that are set before the depth
+abbrev pub prefix_before : ℕ → List Range → List ℤ
+prefix_before depth bx = map low_of (take depth bx)
+
+-- those that are set where all whole variables are
 abbrev pub prefix_in : Problem → List Range → List ℤ
-prefix_in P bx = map low_of (take P.wholes bx)
+prefix_in P bx = prefix_before P.wholes bx
+
+-- each shorter prefix of the box, the empty one left out, may be entered
+abbrev pub AreEntered : Problem → ℕ → List Range → Type 0
+AreEntered P depth bx = (n : ℕ) → 0 < n → n < depth → IsEnterable P (prefix_before n bx)
+
+-- such a box with a legal prefix, of which each shorter one may be entered
+pub record IsJudgePlace (P : Problem) (depth : ℕ) (bx : List Range) : Type 0 where
+  pub box : IsSearchBox P depth bx
+  pub legal : IsLegal P (prefix_before depth bx)
+  pub entered : AreEntered P depth bx
 
 -- such a box in which all whole variables are set, to a legal prefix
 pub record IsEndPlace (P : Problem) (bx : List Range) : Type 0 where

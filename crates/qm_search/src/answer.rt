@@ -1,14 +1,18 @@
-ghost use Rattle.std.specs.Prelude.{◌≡◌, ◌+◌, ℕ, ℤ, List, IfOk, drop, slice_set};
+ghost use Rattle.std.specs.Prelude.{◌≡◌, ◌+◌, ℕ, ℤ, pos, ◌≤ℤ◌, List, IfOk, drop, slice_set};
 ghost use Rattle.qm_model.specs.declared.game.Problem.{Problem};
 ghost use Rattle.qm_model.specs.declared.range.Range.{Range};
+ghost use Rattle.qm_model.specs.declared.row.Row.{Row};
 ghost use Rattle.qm_model.specs.declared.variable.Player.TheVariants.{All as Universal};
 ghost use Rattle.qm_model.specs.declared.variable.Var.{Var};
 ghost use Rattle.qm_model.specs.Goals.{Goal};
 ghost use Rattle.qm_model.specs.Ranges.{single};
+ghost use Rattle.qm_trees.specs.RefuteJudgement.{Head};
 ghost use Rattle.qm_trees.specs.RefuteRight.{IsRightPick};
 ghost use Rattle.qm_legal.specs.SearchSteps.{SetsNext};
+ghost use Rattle.qm_search.specs.declared.window.Window.{Window};
 ghost use Rattle.qm_search.specs.AnswerSteps.{IsRightAnswer};
 ghost use Rattle.qm_search.specs.OutcomeSteps.{IsOutcome, Refutes};
+ghost use Rattle.qm_search.specs.Windows.{IsProperWindow};
 
 use crate::outcome::Outcome;
 use qm_frac::Frac;
@@ -20,7 +24,7 @@ use std::alloc::Global;
 /// What a value of a universal variable comes to.
 #[derive(Debug, Drop)]
 pub enum Answer {
-    /// The rows can't be met against it: a refutation of the goal of any objective, which picks it.
+    /// The floor can't be reached against it: a refutation, which picks it.
     Lost(Refute),
     /// It has its part in the policy.
     Kept(Reply),
@@ -31,7 +35,9 @@ pub enum Answer {
 pub enum Reply {
     /// Why no universal play has it.
     Illegal(Empty),
-    /// What is reached, the policy below it, and a refutation of anything better, which picks it.
+    /// The policy below it, which secures the cap.
+    Secured(Policy),
+    /// What is reached, which lies in the window, the policy below it, and a refutation of anything better, which picks it.
     Reached {
         value: Frac,
         policy: Policy,
@@ -41,7 +47,7 @@ pub enum Reply {
 
 /// The universal player's pick of a value, with a completion.
 fn pick(alloc: Global, value: i64, completion: List<i64>, below: Refute) -> Result<Refute, Memory>
-    ensures { (P : Problem) (rest : List Var) (depth : ℕ) (bx : List Range) (G : Goal) → SetsNext Universal rest → IsRightPick P (drop 1 rest) depth bx value completion → Refutes P (drop 1 rest) (depth + 1) (slice_set bx depth (single value)) G below → IfOk result (Refutes P rest depth bx G) }
+    ensures { (P : Problem) (cuts : List Row) (heads : List Head) (rest : List Var) (depth : ℕ) (bx : List Range) (G : Goal) → SetsNext Universal rest → IsRightPick P (drop 1 rest) depth bx value completion → Refutes P cuts heads (drop 1 rest) (depth + 1) (slice_set bx depth (single value)) G below → IfOk result (Refutes P cuts heads rest depth bx G) }
 {
     Ok(Refute::Pick {
         value,
@@ -57,11 +63,11 @@ pub fn legal_answer(
     completion: List<i64>,
     outcome: Outcome,
 ) -> Result<Answer, Memory>
-    ensures { (P : Problem) (rest : List Var) (depth : ℕ) (bx : List Range) (first : ℤ) → SetsNext Universal rest → IsRightPick P (drop 1 rest) depth bx at completion → IsOutcome P (drop 1 rest) (depth + 1) (slice_set bx depth (single at)) outcome → IfOk result (IsRightAnswer P rest depth bx first at) }
+    ensures { (P : Problem) (cuts : List Row) (heads : List Head) (rest : List Var) (depth : ℕ) (bx : List Range) (W : Window) (first : ℤ) → IsProperWindow W → SetsNext Universal rest → IsRightPick P (drop 1 rest) depth bx at completion → IsOutcome P cuts heads (drop 1 rest) (depth + 1) (slice_set bx depth (single at)) W outcome → IfOk result (IsRightAnswer P cuts heads rest depth bx W first at) }
 {
     match outcome {
-        Outcome::Lost(refute) => Ok(Answer::Lost(pick(alloc, at, completion, refute)?)),
-        Outcome::Reached {
+        Outcome::Under(refute) => Ok(Answer::Lost(pick(alloc, at, completion, refute)?)),
+        Outcome::At {
             value,
             policy,
             refute,
@@ -70,5 +76,6 @@ pub fn legal_answer(
             policy,
             refute: pick(alloc, at, completion, refute)?,
         })),
+        Outcome::Over { value: _, policy } => Ok(Answer::Kept(Reply::Secured(policy))),
     }
 }

@@ -1,19 +1,24 @@
 ghost use Rattle.std.specs.Prelude.{◌≡◌, ◌+◌, ℕ, ℤ, pos, ◌+ℤ◌, ◌≤ℤ◌, List, IfOk, IsSome};
 ghost use Rattle.qm_model.specs.declared.game.Problem.{Problem};
 ghost use Rattle.qm_model.specs.declared.range.Range.{Range};
+ghost use Rattle.qm_model.specs.declared.row.Row.{Row};
 ghost use Rattle.qm_model.specs.declared.variable.Player.TheVariants.{All as Universal};
 ghost use Rattle.qm_model.specs.declared.variable.Var.{Var};
 ghost use Rattle.qm_model.specs.Ranges.{range_at, single};
 ghost use Rattle.qm_trees.specs.declared.policy.Below.TheOpen as node;
 ghost use Rattle.qm_trees.specs.PolicyJudgement.{below_of, range_of};
+ghost use Rattle.qm_trees.specs.RefuteJudgement.{Head};
 ghost use Rattle.qm_legal.specs.SearchSteps.{SetsNext};
-ghost use Rattle.qm_search.specs.AnswerSteps.{AreAnswers, IsReply, is_worse, worse_of};
+ghost use Rattle.qm_search.specs.declared.answer.Reply.TheVariants.{Illegal, Reached, Secured};
+ghost use Rattle.qm_search.specs.declared.window.Window.{Window};
+ghost use Rattle.qm_search.specs.AnswerSteps.{AreAnswers, IsOver, IsReply, answer_window, cap_below};
 ghost use Rattle.qm_search.specs.OutcomeSteps.{IsOutcome};
 ghost use Rattle.qm_search.specs.PartSteps.{IsPast};
+ghost use Rattle.qm_search.specs.Windows.{IsProperWindow};
 
 use crate::answer::Reply;
-use crate::order::is_less;
 use crate::outcome::Outcome;
+use crate::window::Window;
 use qm_frac::Frac;
 use qm_io::Memory;
 use qm_model::single;
@@ -28,39 +33,18 @@ pub struct Worst {
     refute: Refute,
 }
 
-/// The values of a universal variable so far: the worst that one of them leads to, where one is legal, and what the
-/// policy has for each.
+/// The values of a universal variable so far: the worst that one of them leads to, where one leads below the cap, and what
+/// the policy has for each.
 #[derive(Debug, Drop)]
 pub struct Answers {
     worst: Option<Worst>,
     parts: Items<PolicyPart>,
 }
 
-/// Whether the value is worse than the worst so far.
-fn is_worse(value: Frac, worst: &Option<Worst>) -> bool
-    ensures { result ≡ is_worse value worst.now }
-{
-    match worst {
-        None => true,
-        Some(worst) => is_less(value, worst.value),
-    }
-}
-
-/// The worse of the two, and the earlier where they are the same.
-fn worse(worst: Option<Worst>, found: Worst) -> Option<Worst>
-    ensures { result ≡ worse_of worst found }
-{
-    if is_worse(found.value, &worst) {
-        Some(found)
-    } else {
-        worst
-    }
-}
-
 impl Answers {
     /// No value yet.
     pub fn new(alloc: Global) -> Answers
-        ensures { (P : Problem) (rest : List Var) (depth : ℕ) (bx : List Range) (first low : ℤ) → low ≤ℤ first → AreAnswers P rest depth bx first low low result }
+        ensures { (P : Problem) (cuts : List Row) (heads : List Head) (rest : List Var) (depth : ℕ) (bx : List Range) (W : Window) (first low : ℤ) → low ≤ℤ first → AreAnswers P cuts heads rest depth bx W first low low result }
     {
         Answers {
             worst: None,
@@ -68,48 +52,107 @@ impl Answers {
         }
     }
 
-    /// The values with one more, and the reply to it.
-    pub fn with(self, at: i64, reply: Reply) -> Result<Answers, Memory>
-        ensures { (P : Problem) (rest : List Var) (depth : ℕ) (bx : List Range) (first low : ℤ) → AreAnswers P rest depth bx first low at self → IsReply P rest depth bx first at reply → IfOk result (AreAnswers P rest depth bx first low (at +ℤ pos 1)) }
+    /// The window of the next value, which is to lead to less than the worst so far.
+    pub fn window(&self, window: &Window) -> Window
+        ensures { result ≡ answer_window window.now self.now.worst }
+    {
+        match &self.worst {
+            None => *window,
+            Some(worst) => Window {
+                floor: window.floor,
+                cap: Some(worst.value),
+            },
+        }
+    }
+
+    /// The values with one more that no universal play has.
+    fn illegal(self, at: i64, tree: Empty) -> Result<Answers, Memory>
+        ensures { (P : Problem) (cuts : List Row) (heads : List Head) (rest : List Var) (depth : ℕ) (bx : List Range) (W : Window) (first low : ℤ) → AreAnswers P cuts heads rest depth bx W first low at self → IsReply P cuts heads rest depth bx (answer_window W self.worst) first at (Illegal tree) → IfOk result (AreAnswers P cuts heads rest depth bx W first low (at +ℤ pos 1)) }
     {
         let Answers { worst, mut parts } = self;
+        parts.push(illegal_part(at, tree)).map_err(|_| Memory)?;
+        Ok(Answers { worst, parts })
+    }
+
+    /// The values with one more behind which the cap is secured.
+    fn secured(self, at: i64, policy: Policy) -> Result<Answers, Memory>
+        ensures { (P : Problem) (cuts : List Row) (heads : List Head) (rest : List Var) (depth : ℕ) (bx : List Range) (W : Window) (first low : ℤ) → AreAnswers P cuts heads rest depth bx W first low at self → IsReply P cuts heads rest depth bx (answer_window W self.worst) first at (Secured policy) → IfOk result (AreAnswers P cuts heads rest depth bx W first low (at +ℤ pos 1)) }
+    {
+        let Answers { worst, mut parts } = self;
+        parts.push(part(at, policy)).map_err(|_| Memory)?;
+        Ok(Answers { worst, parts })
+    }
+
+    /// The values with one more that leads to less.
+    fn reached(
+        self,
+        value: Frac,
+        at: i64,
+        policy: Policy,
+        refute: Refute,
+    ) -> Result<Answers, Memory>
+        ensures { (P : Problem) (cuts : List Row) (heads : List Head) (rest : List Var) (depth : ℕ) (bx : List Range) (W : Window) (first low : ℤ) → IsProperWindow W → AreAnswers P cuts heads rest depth bx W first low at self → IsReply P cuts heads rest depth bx (answer_window W self.worst) first at (Reached value policy refute) → IfOk result (AreAnswers P cuts heads rest depth bx W first low (at +ℤ pos 1)) }
+    {
+        let Answers {
+            worst: _,
+            mut parts,
+        } = self;
+        parts.push(part(at, policy)).map_err(|_| Memory)?;
+        let worst = Worst { value, refute };
+        Ok(Answers {
+            worst: Some(worst),
+            parts,
+        })
+    }
+
+    /// The values with one more, and the reply to it in its window.
+    pub fn with(self, at: i64, reply: Reply) -> Result<Answers, Memory>
+        ensures { (P : Problem) (cuts : List Row) (heads : List Head) (rest : List Var) (depth : ℕ) (bx : List Range) (W : Window) (first low : ℤ) → IsProperWindow W → AreAnswers P cuts heads rest depth bx W first low at self → IsReply P cuts heads rest depth bx (answer_window W self.worst) first at reply → IfOk result (AreAnswers P cuts heads rest depth bx W first low (at +ℤ pos 1)) }
+    {
         match reply {
-            Reply::Illegal(tree) => {
-                parts.push(illegal_part(at, tree)).map_err(|_| Memory)?;
-                Ok(Answers { worst, parts })
-            }
+            Reply::Illegal(tree) => self.illegal(at, tree),
+            Reply::Secured(policy) => self.secured(at, policy),
             Reply::Reached {
                 value,
                 policy,
                 refute,
-            } => {
-                parts.push(part(at, policy)).map_err(|_| Memory)?;
-                let found = Worst { value, refute };
-                Ok(Answers {
-                    worst: worse(worst, found),
-                    parts,
-                })
-            }
+            } => self.reached(value, at, policy, refute),
         }
     }
 
     /// What all the values come to.
-    pub fn outcome(self) -> Outcome
-        requires { IsSome self.worst }
-        ensures { (P : Problem) (rest : List Var) (depth : ℕ) (bx : List Range) (first next : ℤ) → SetsNext Universal rest → AreAnswers P rest depth bx first (range_at bx depth).low next self → IsPast (range_at bx depth) next → IsOutcome P rest depth bx result }
+    pub fn outcome(self, cap: Option<Frac>) -> Outcome
+        requires { IsSome (cap_below cap self.worst) }
+        ensures { (P : Problem) (cuts : List Row) (heads : List Head) (rest : List Var) (depth : ℕ) (bx : List Range) (W : Window) (first next : ℤ) → cap ≡ W.cap → IsProperWindow W → SetsNext Universal rest → AreAnswers P cuts heads rest depth bx W first (range_at bx depth).low next self → IsPast (range_at bx depth) next → IsOutcome P cuts heads rest depth bx W result }
     {
         let Answers { worst, parts } = self;
+        let policy = Policy::Answer { parts };
         match worst {
-            None => unreachable!(),
             Some(worst) => {
                 let Worst { value, refute } = worst;
-                Outcome::Reached {
+                Outcome::At {
                     value,
-                    policy: Policy::Answer { parts },
+                    policy,
                     refute,
                 }
             }
+            None => over(cap, policy),
         }
+    }
+}
+
+/// The policy secures the cap.
+fn over(cap: Option<Frac>, policy: Policy) -> Outcome
+    requires { IsSome cap }
+    ensures { IsOver cap policy result }
+{
+    match cap {
+        Some(value) => {
+            // that its denominator is positive
+            let _positive = value.den();
+            Outcome::Over { value, policy }
+        }
+        None => unreachable!(),
     }
 }
 

@@ -1,6 +1,15 @@
+use qm_certfile::Certificate;
 use qm_io::{List, Memory};
+use qm_journal::Journal;
 use qm_simplex::RunLeaves;
 use thiserror::Error;
+
+/// A game's certificate, and the journal of the search that made it.
+#[derive(Debug, Drop)]
+pub struct Solved {
+    pub certificate: Certificate,
+    pub journal: Journal,
+}
 
 /// A complete prefix whose leaf run leaves the range, with the operation and the pivots until then.
 #[derive(Debug, Drop)]
@@ -12,6 +21,9 @@ pub struct Leave {
 /// Why there is no certificate.
 #[derive(Debug, Drop, Error)]
 pub enum SearchFault {
+    /// The journal has as many entries as its limit.
+    #[error("the budget is spent")]
+    Spent(Journal),
     /// An operation of the leaf run of this prefix leaves the range.
     #[error("an operation of a leaf's run leaves the range")]
     Leave(Leave),

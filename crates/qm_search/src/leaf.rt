@@ -1,22 +1,23 @@
-ghost use Rattle.std.specs.Prelude.{◌≡◌, ◌↔◌, ℕ, [], ◌∷◌, All, IfErr, IfOk, IsTrue, None, Ok, false, length, pos, true};
-ghost use Rattle.qm_math.specs.Fraction.{Fraction, whole};
+ghost use Rattle.std.specs.Prelude.{◌≡◌, ◌↔◌, ℕ, [], All, Any, IfErr, IfOk, IsTrue, None, Ok, length, true};
 ghost use Rattle.qm_game.specs.Dead.{IsFirstDead};
-ghost use Rattle.qm_model.specs.Boxes.{IsBox};
+ghost use Rattle.qm_model.specs.Boxes.{IsBox, IsEmptyRange};
 ghost use Rattle.qm_trees.specs.declared.combination.ComboValue.TheVariants.{Bound};
-ghost use Rattle.qm_trees.specs.declared.refutation.Refute.{Close};
 ghost use Rattle.qm_trees.specs.Evaluation.{value_of};
-ghost use Rattle.qm_search.specs.Faults.{IsRightFault};
-ghost use Rattle.qm_search.specs.OutcomeSteps.{IsOutcome};
-ghost use Rattle.qm_search.specs.PlaceSteps.{IsEndPlace, IsSingle};
+ghost use Rattle.qm_math.specs.Fraction.{Fraction};
+ghost use Rattle.qm_simplex.specs.RightLeaves.{AllShorter};
+ghost use Rattle.qm_search.specs.Entering.{IsEnterable};
+ghost use Rattle.qm_search.specs.OutcomeSteps.{IsPlayed};
+ghost use Rattle.qm_search.specs.PlaceSteps.{IsEndPlace, IsSingle, prefix_in};
+ghost use Rattle.qm_search.specs.StopSteps.{IsLeafStop};
 
-use crate::fault::SearchFault;
-use crate::mixed::mixed_outcome;
-use crate::outcome::Outcome;
+use crate::mixed::mixed_leaf;
+use crate::played::Played;
+use crate::stop::Stop;
 use qm_combo::value;
 use qm_frac::Frac;
-use qm_game::{Bx, Game, RowId, has_empty, row_dead};
-use qm_io::{List, Memory};
-use qm_trees::{Combo, ComboValue, Entry, Policy, Refute};
+use qm_game::{Bx, Game};
+use qm_io::List;
+use qm_trees::{Combo, ComboValue, Policy, Refute};
 use std::alloc::Global;
 
 /// The bound of a combination with the objective.
@@ -43,18 +44,6 @@ fn objective_bound(game: &Game, bx: &Bx, combo: &Combo) -> Frac
     }
 }
 
-/// A dead row alone closes every goal.
-fn closed_by(alloc: Global, row: RowId) -> Result<Refute, Memory>
-    ensures { IfOk result (λ tree. tree ≡ Close (record { objective = false; entries = record { row = row; by = whole (pos 1) } ∷ [] })) }
-{
-    let mut combo = Combo::new(alloc, false);
-    combo.push(Entry {
-        row,
-        by: Frac::whole(1),
-    })?;
-    Ok(Refute::Close(combo))
-}
-
 /// Whether no variable is continuous.
 fn is_all_whole(game: &Game) -> bool
     ensures { IsTrue result ↔ (game.now.wholes ≡ length game.now.vars) }
@@ -63,13 +52,13 @@ fn is_all_whole(game: &Game) -> bool
     problem.wholes as usize == problem.vars.len()
 }
 
-/// The outcome where all variables are set and no row is dead: the objective alone bounds it.
-fn whole_outcome(alloc: Global, game: &Game, bx: &Bx) -> Outcome
+/// What the box comes to where all variables are set and no row is dead: the objective alone bounds it.
+fn whole_leaf(alloc: Global, game: &Game, bx: &Bx) -> Played
     requires all_whole { game.now.wholes ≡ length game.now.vars }
     requires bx { IsBox game.now.vars bx.now }
     requires set { All IsSingle bx.now }
     requires alive { IsFirstDead game.now bx.now None }
-    ensures { (depth : ℕ) → IsOutcome game.now [] depth bx.now result }
+    ensures { (depth : ℕ) → IsPlayed game.now [] [] [] depth bx.now result }
 {
     // that the problem is in order
     let _problem = game.problem();
@@ -77,7 +66,7 @@ fn whole_outcome(alloc: Global, game: &Game, bx: &Bx) -> Outcome
     let bound = objective_bound(game, bx, &combo);
     // that its denominator is positive
     let _positive = bound.den();
-    Outcome::Reached {
+    Played::Reached {
         value: bound,
         policy: Policy::Leaf {
             point: List::new(alloc),
@@ -86,21 +75,18 @@ fn whole_outcome(alloc: Global, game: &Game, bx: &Bx) -> Outcome
     }
 }
 
-/// The outcome where all whole variables are set. An empty range closes it without rows, else the first dead row does;
-/// else the objective alone, where no variable is continuous, or its leaf run.
-pub fn outcome_at_end(alloc: Global, game: &Game, bx: &Bx) -> Result<Outcome, SearchFault>
-    requires { IsEndPlace game.now bx.now }
-    ensures outcome { (depth : ℕ) → IfOk result (IsOutcome game.now [] depth bx.now) }
-    ensures fault { IfErr result (IsRightFault game.now) }
+/// What the box comes to where all whole variables are set, no range is empty and no row is dead: the objective alone
+/// tells it where no variable is continuous, else its leaf run.
+pub fn leaf(alloc: Global, game: &Game, bx: &Bx) -> Result<Played, Stop>
+    requires place { IsEndPlace game.now bx.now }
+    requires full { Any IsEmptyRange bx.now → ⊥ }
+    requires alive { IsFirstDead game.now bx.now None }
+    requires entered { AllShorter (IsEnterable game.now) (prefix_in game.now bx.now) }
+    ensures played { (depth : ℕ) → IfOk result (IsPlayed game.now [] [] [] depth bx.now) }
+    ensures stop { IfErr result (IsLeafStop game.now) }
 {
-    if has_empty(bx) {
-        return Ok(Outcome::Lost(Refute::Close(Combo::new(alloc, false))));
-    }
-    if let Some(row) = row_dead(game, bx) {
-        return Ok(Outcome::Lost(closed_by(alloc, row)?));
-    }
     if is_all_whole(game) {
-        return Ok(whole_outcome(alloc, game, bx));
+        return Ok(whole_leaf(alloc, game, bx));
     }
-    mixed_outcome(alloc, game, bx)
+    mixed_leaf(alloc, game, bx)
 }

@@ -1,12 +1,17 @@
-ghost use Rattle.std.specs.Prelude.{◌≡◌, ◌+◌, ◌↔◌, ◌⊎◌, [], ◌<◌, IfOk, IsTrue, drop, length, slice_set};
-ghost use Rattle.qm_math.specs.Ranges.{IsBetween};
-ghost use Rattle.qm_model.specs.Ranges.{range_at, single};
+ghost use Rattle.std.specs.Prelude.{◌≡◌, ◌+◌, ◌↔◌, ◌⊎◌, [], ◌<◌, IfErr, IfOk, IsTrue, drop, length, slice_set};
+ghost use Rattle.qm_model.specs.Ranges.{single};
+ghost use Rattle.qm_model.specs.declared.variable.Player.TheVariants.{All as Universal};
 ghost use Rattle.qm_legal.specs.Queries.{IsRightLegality};
-ghost use Rattle.qm_search.specs.PlaceSteps.{IsSearchBox, next_value};
+ghost use Rattle.qm_legal.specs.SearchSteps.{SetsNext};
+ghost use Rattle.qm_search.specs.PlaceSteps.{next_value};
+ghost use Rattle.qm_search.specs.StopSteps.{IsRightStop};
+ghost use Rattle.qm_search.specs.VisitSteps.{IsNewValuePlace, Moved, WentAsked};
 
-use qm_game::{Bx, Game, Place};
+use crate::state::Search;
+use crate::stop::Stop;
+use qm_game::{Game, Place};
 use qm_io::{List, Memory};
-use qm_legal::{Legality, complete};
+use qm_legal::{Legality, NamedPrefix, legal};
 use qm_model::single;
 use std::alloc::Global;
 
@@ -36,17 +41,28 @@ pub fn list_of(alloc: Global, values: &[i64]) -> Result<List<i64>, Memory>
     Ok(list)
 }
 
-/// Values that complete this value of the next variable, or why no universal play has it. The box stays as it was.
-pub fn legality(alloc: Global, here: Place<'_>, bx: &mut Bx, value: i64) -> Result<Legality, Memory>
-    requires bx { IsSearchBox here.game.now here.depth bx.old }
-    requires some { 0 < length here.rest.now }
-    requires within { IsBetween (range_at bx.old here.depth).low (range_at bx.old here.depth).high value }
-    ensures legality { IfOk result (IsRightLegality here.entry.game.now (here.entry.depth + 1) (slice_set bx.old here.entry.depth (single value))) }
-    ensures same { bx.new ≡ bx.old }
+/// Values that complete this value of the next variable behind the entry, or why no universal play has it. The journal
+/// may go on by a question about it.
+pub fn legality(
+    alloc: Global,
+    here: Place<'_>,
+    search: &mut Search,
+    entry: u32,
+    value: i64,
+) -> Result<Legality, Stop>
+    requires player { SetsNext Universal here.rest.now }
+    requires place { IsNewValuePlace here.game.now here.depth search.old entry value }
+    ensures legality { IfOk result (IsRightLegality here.entry.game.now (here.entry.depth + 1) (slice_set search.old.bx here.entry.depth (single value))) }
+    ensures stop { IfErr result (IsRightStop here.entry.game.now search.new.journal) }
+    ensures moved { Moved here.entry.game.now (WentAsked entry value) search.old search.new }
 {
-    let before = here.range(bx);
-    here.put(bx, single(value));
-    let answer = complete(alloc, here.game, here.depth as u32 + 1, bx);
-    here.put(bx, before);
-    answer
+    let named = NamedPrefix {
+        parent: entry,
+        value: Some(value),
+    };
+    let before = here.range(&search.bx);
+    here.put(&mut search.bx, single(value));
+    let answer = legal(alloc, here.game, &search.bx, named, &mut search.journal);
+    here.put(&mut search.bx, before);
+    Ok(answer?)
 }

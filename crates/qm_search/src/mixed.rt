@@ -3,14 +3,17 @@ ghost use Rattle.qm_game.specs.Dead.{IsFirstDead};
 ghost use Rattle.qm_model.specs.Boxes.{IsEmptyRange};
 ghost use Rattle.qm_simplex.specs.LeafRuns.{IsLeafRun, leaf_point};
 ghost use Rattle.qm_trees.specs.declared.policy.Policy.{Leaf};
-ghost use Rattle.qm_search.specs.Faults.{IsRightFault};
+ghost use Rattle.qm_search.specs.StopSteps.{IsLeafStop};
+ghost use Rattle.qm_simplex.specs.RightLeaves.{AllShorter};
+ghost use Rattle.qm_search.specs.Entering.{IsEnterable};
 ghost use Rattle.qm_search.specs.LeafSteps.{IsLeafEnd, IsRunFault};
-ghost use Rattle.qm_search.specs.OutcomeSteps.{IsOutcome};
+ghost use Rattle.qm_search.specs.OutcomeSteps.{IsPlayed};
 ghost use Rattle.qm_search.specs.PlaceSteps.{IsEndPlace, prefix_in};
 
-use crate::fault::{Leave, SearchFault};
+use crate::fault::Leave;
 use crate::leaf_run::leaf_run;
-use crate::outcome::Outcome;
+use crate::played::Played;
+use crate::stop::Stop;
 use qm_frac::Frac;
 use qm_game::{Bx, Game};
 use qm_io::{List, Memory};
@@ -43,16 +46,16 @@ fn prefix_of(alloc: Global, game: &Game, bx: &Bx) -> Result<List<i64>, Memory>
 
 /// What the end of the leaf run comes to: its point is a leaf at its value, and its combination refutes anything above;
 /// or its combination alone refutes that the rows can be met.
-fn end_outcome(alloc: Global, game: &Game, bx: &Bx, end: LpEnd) -> Result<Outcome, Memory>
+fn end_leaf(alloc: Global, game: &Game, bx: &Bx, end: LpEnd) -> Result<Played, Memory>
     requires place { IsEndPlace game.now bx.now }
     requires end { IsLeafEnd game.now bx.now end }
-    ensures { (depth : ℕ) → IfOk result (IsOutcome game.now [] depth bx.now) }
+    ensures { (depth : ℕ) → IfOk result (IsPlayed game.now [] [] [] depth bx.now) }
 {
     match end {
         LpEnd::Void { combo, pivots: _ } => {
             // that it is well formed
             let _void_form = combo.entries();
-            Ok(Outcome::Lost(Refute::Close(combo)))
+            Ok(Played::Lost(Refute::Close(combo)))
         }
         LpEnd::Best {
             point,
@@ -65,7 +68,7 @@ fn end_outcome(alloc: Global, game: &Game, bx: &Bx, end: LpEnd) -> Result<Outcom
             let _positive = value.den();
             let values = point.as_slice();
             values_are_fractions(values);
-            Ok(Outcome::Reached {
+            Ok(Played::Reached {
                 value,
                 policy: leaf_of(alloc, game, values)?,
                 refute: Refute::Close(combo),
@@ -75,35 +78,37 @@ fn end_outcome(alloc: Global, game: &Game, bx: &Bx, end: LpEnd) -> Result<Outcom
 }
 
 /// Why the leaf run has no end.
-fn run_fault(alloc: Global, game: &Game, bx: &Bx, fault: LpFault) -> SearchFault
+fn run_stop(alloc: Global, game: &Game, bx: &Bx, fault: LpFault) -> Stop
     requires place { IsEndPlace game.now bx.now }
     requires mixed { game.now.wholes < length game.now.vars }
     requires full { Any IsEmptyRange bx.now → ⊥ }
     requires alive { IsFirstDead game.now bx.now None }
+    requires entered { AllShorter (IsEnterable game.now) (prefix_in game.now bx.now) }
     requires run { IsRunFault game.now bx.now fault }
-    ensures { IsRightFault game.now result }
+    ensures { IsLeafStop game.now result }
 {
     match fault {
-        LpFault::Memory => SearchFault::Memory,
+        LpFault::Memory => Stop::Memory,
         LpFault::Leaves(run) => match prefix_of(alloc, game, bx) {
-            Ok(prefix) => SearchFault::Leave(Leave { prefix, run }),
-            Err(_) => SearchFault::Memory,
+            Ok(prefix) => Stop::Leave(Leave { prefix, run }),
+            Err(_) => Stop::Memory,
         },
     }
 }
 
-/// The outcome where all whole variables are set and others are not, no range is empty and no row is dead: what the leaf
-/// run of the box says.
-pub fn mixed_outcome(alloc: Global, game: &Game, bx: &Bx) -> Result<Outcome, SearchFault>
+/// What the box comes to where all whole variables are set and others are not, no range is empty and no row is dead: what
+/// its leaf run tells.
+pub fn mixed_leaf(alloc: Global, game: &Game, bx: &Bx) -> Result<Played, Stop>
     requires place { IsEndPlace game.now bx.now }
     requires mixed { game.now.wholes < length game.now.vars }
     requires full { Any IsEmptyRange bx.now → ⊥ }
     requires alive { IsFirstDead game.now bx.now None }
-    ensures outcome { (depth : ℕ) → IfOk result (IsOutcome game.now [] depth bx.now) }
-    ensures fault { IfErr result (IsRightFault game.now) }
+    requires entered { AllShorter (IsEnterable game.now) (prefix_in game.now bx.now) }
+    ensures played { (depth : ℕ) → IfOk result (IsPlayed game.now [] [] [] depth bx.now) }
+    ensures stop { IfErr result (IsLeafStop game.now) }
 {
     match leaf_run(alloc, game, bx) {
-        Ok(end) => Ok(end_outcome(alloc, game, bx, end)?),
-        Err(fault) => Err(run_fault(alloc, game, bx, fault)),
+        Ok(end) => Ok(end_leaf(alloc, game, bx, end)?),
+        Err(fault) => Err(run_stop(alloc, game, bx, fault)),
     }
 }

@@ -1,15 +1,20 @@
 use qm_frac::Frac;
 use qm_trees::{Policy, Refute};
 
-/// What the existential player can reach from a box on, with the trees that show it.
+/// What a visit tells of a box, for a window.
 #[derive(Debug, Drop)]
 pub enum Outcome {
-    /// The rows can't be met: a refutation of the goal of any objective.
-    Lost(Refute),
-    /// The value, a policy that reaches it, and a refutation of every better one.
-    Reached {
+    /// The floor can't be reached: a refutation of it.
+    Under(Refute),
+    /// The value lies in the window: a policy that secures it, and a refutation of every better one.
+    At {
         value: Frac,
         policy: Policy,
         refute: Refute,
+    },
+    /// The value is at the cap or above it: a policy that secures it.
+    Over {
+        value: Frac,
+        policy: Policy,
     },
 }

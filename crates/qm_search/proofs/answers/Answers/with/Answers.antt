@@ -1,22 +1,23 @@
-use Rattle.std.proofs.Common.{rules, ◌≡◌, ◌∷◌, [], ◌++◌, subst}
+use Rattle.std.proofs.Common.{subst}
 use Rattle.std.proofs.lemmas.Int.{to_z-of_z}
 use mir.Syntax.{w64}
-use Rattle.qm_search.specs.AnswerSteps.{IsReply}
-use Rattle.qm_search.proofs.AnswerLaws.{illegal_answer, one_answer}
+use Rattle.qm_search.specs.AnswerSteps.{IsReply, answer_window}
 use Rattle.qm_search.proofs.answers.Answers.with.Goals as goal
 
-pub returns-in_ok-map_err-in-Illegal : goal.returns-in_ok-map_err-in-Illegal
-returns-in_ok-map_err-in-Illegal c = λ P rest depth bx first low are reply.
-    let pushed : c.push.new.self ≡ c.args.self.parts ++ c.illegal_part.result ∷ [] = search rules in
-    let range = rw (to_z-of_z w64 c.args.at c.ranges.at) at c.illegal_part.ensures.range in
-    let illegal = subst (IsReply P rest depth bx first c.args.at) c.in-Illegal.is reply in
-    illegal_answer P rest depth bx first low c.args.at c.args.self are c.push.new.self c.illegal_part.result pushed range
-    c.in-Illegal.tree c.illegal_part.ensures.below illegal.0 illegal.1
+pub returns-in-Illegal : goal.returns-in-Illegal
+returns-in-Illegal c = λ P cuts heads rest depth bx W first low proper are reply.
+    let same = to_z-of_z w64 c.args.at c.ranges.at in
+    let illegal = subst (IsReply P cuts heads rest depth bx (answer_window W c.args.self.worst) first c.args.at) c.in-Illegal.is reply in
+    (rw same at c.illegal.ensures) P cuts heads rest depth bx W first low are illegal
 
-pub returns-in_ok-map_err-in-Reached : goal.returns-in_ok-map_err-in-Reached
-returns-in_ok-map_err-in-Reached c = λ P rest depth bx first low are reply.
-    let pushed : c.push-in-Reached.new.self ≡ c.args.self.parts ++ c.part.result ∷ [] = search rules in
-    let range = rw (to_z-of_z w64 c.args.at c.ranges.at) at c.part.ensures.range in
-    let answered = subst (IsReply P rest depth bx first c.args.at) c.in-Reached.is reply in
-    one_answer P rest depth bx first low c.args.at c.args.self are c.push-in-Reached.new.self c.part.result pushed range
-    c.in-Reached.value c.in-Reached.policy c.in-Reached.refute c.part.ensures.below answered c.worse.result c.worse.ensures
+pub returns-in-Secured : goal.returns-in-Secured
+returns-in-Secured c = λ P cuts heads rest depth bx W first low proper are reply.
+    let same = to_z-of_z w64 c.args.at c.ranges.at in
+    let secured = subst (IsReply P cuts heads rest depth bx (answer_window W c.args.self.worst) first c.args.at) c.in-Secured.is reply in
+    (rw same at c.secured.ensures) P cuts heads rest depth bx W first low are secured
+
+pub returns-in-Reached : goal.returns-in-Reached
+returns-in-Reached c = λ P cuts heads rest depth bx W first low proper are reply.
+    let same = to_z-of_z w64 c.args.at c.ranges.at in
+    let reached = subst (IsReply P cuts heads rest depth bx (answer_window W c.args.self.worst) first c.args.at) c.in-Reached.is reply in
+    (rw same at c.reached.ensures) P cuts heads rest depth bx W first low proper are reached

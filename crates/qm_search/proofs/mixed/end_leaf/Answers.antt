@@ -3,7 +3,7 @@ use Rattle.qm_frac.specs.Lowest.{IsFrac}
 use Rattle.qm_trees.specs.declared.policy.Policy.{Leaf}
 use Rattle.qm_trees.specs.declared.refutation.Refute.{Close}
 use Rattle.qm_search.proofs.LeafEnds.{best_end, best_long, void_end}
-use Rattle.qm_search.proofs.mixed.end_outcome.Goals as goal
+use Rattle.qm_search.proofs.mixed.end_leaf.Goals as goal
 
 pub leaf_of-requires : goal.leaf_of-requires
 leaf_of-requires c =
