@@ -18,6 +18,16 @@ pub enum Command {
     Solve { nodes: u64 },
 }
 
+impl Command {
+    /// The budget.
+    pub fn nodes(self) -> u64
+        ensures { self ≡ Command.Solve result }
+    {
+        let Command::Solve { nodes } = self;
+        nodes
+    }
+}
+
 /// The number as a budget; None where it is none.
 fn budget(number: i64) -> Option<u64>
     ensures some { IfSome result (λ nodes. IsBudget nodes × (number ≡ pos nodes)) }

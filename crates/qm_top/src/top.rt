@@ -7,7 +7,7 @@ ghost use Rattle.qm_top.specs.Completeness.{IsDueTo};
 ghost use Rattle.qm_top.specs.Report.{status_of, text_of};
 ghost use Rattle.qm_top.specs.Words.{Asks};
 
-use crate::command::{Command, command_of};
+use crate::command::command_of;
 use crate::report::Report;
 use crate::solve::solve;
 use qm_io::{Sink, Source};
@@ -25,7 +25,7 @@ fn answer<P: Source>(alloc: Global, words: &[String], problem: &mut P) -> Report
 {
     match command_of(words) {
         None => Report::Usage,
-        Some(Command::Solve { .. }) => solve(alloc, problem),
+        Some(command) => solve(alloc, problem, command.nodes()),
     }
 }
 
