@@ -157,3 +157,7 @@ game_answered bytes others told P same is states status text solves = stated P (
 -- a report, by its status and its text
 abbrev pub Reports : (ℕ → List ℕ → Type 0) → Report → Type 0
 Reports P report = P (status_of report) (text_of report)
+
+-- there is one command
+pub asks_solve : (command : Command) (words : List (List ℕ)) → Asks command words → (nodes : ℕ) × Asks (Solve nodes) words
+asks_solve (Solve nodes) words asks = (nodes, asks)
