@@ -15,6 +15,7 @@ from .explain import UNCHECKED
 from .faults import Fault, FileFault
 from .game import Game
 from .model import Program
+from .program import MOST_NODES
 
 Words = argparse.Namespace
 INTERRUPTED = 130
@@ -48,16 +49,16 @@ def write_text(path: Optional[str], made: str) -> None:
         raise FileFault(f"{path} can't be written: {error.strerror}") from None
 
 
-def solved(words: Words, save: Optional[str] = None) -> solution.Solution:
+def solved(words: Words, save: Optional[str] = None, nodes: Optional[int] = None) -> solution.Solution:
     """The problem with the given certificate, or solved anew where none is given."""
     data = read_file(words.file)
     if getattr(words, "cert", None) is not None:
         return solution.given(data, words.cert)
-    return solution.solve(data, clock=sys.stderr, save=save)
+    return solution.solve(data, clock=sys.stderr, save=save, nodes=nodes)
 
 
 def run_solve(words: Words) -> None:
-    tell_all(solved(words, words.save).explain())
+    tell_all(solved(words, words.save, words.nodes).explain())
 
 
 def run_explain(words: Words) -> None:
@@ -106,6 +107,8 @@ def add_problem(parser: argparse.ArgumentParser, has_certificate: bool = True) -
 
 def solve_options(parser: argparse.ArgumentParser) -> None:
     add_problem(parser, False)
+    nodes = f"let the search make so many entries at most, up to {MOST_NODES} (without this 1000000)"
+    parser.add_argument("--nodes", metavar="N", type=int, help=nodes)
     parser.add_argument("--save", metavar="CERT", help="keep the certificate in this file")
 
 

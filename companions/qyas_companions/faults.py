@@ -99,6 +99,12 @@ class Memory(Fault):
     status = 10
 
 
+class Spent(Fault):
+    """The program's budget is spent: how many entries that is."""
+
+    status = 8
+
+
 class NumberLeaves(Fault):
     """A number leaves 128 bits in the linear program of a leaf: where it does."""
 

@@ -20,10 +20,13 @@ from .faults import (
     OutputFault,
     ProgramFault,
     ReadFault,
+    Spent,
     TextFault,
+    WrongWords,
 )
 
 ENDING = (signal.SIGINT, signal.SIGTERM)
+MOST_NODES = 50_000_000
 BUILT = Path(__file__).resolve().parents[2] / "crates" / "qyas" / "out" / "qyas"
 
 
@@ -43,20 +46,31 @@ def find(given: Optional[str] = None) -> str:
     return found
 
 
-def solve_text(data: bytes, given: Optional[str] = None, clock: Optional[TextIO] = None) -> IO[bytes]:
-    """Solves the problem of this text: a file open at the beginning of the certificate."""
+def solve_text(
+    data: bytes, given: Optional[str] = None, clock: Optional[TextIO] = None, nodes: Optional[int] = None
+) -> IO[bytes]:
+    """Solves the problem of this text, within a budget of `nodes`: a file open at the beginning of the certificate."""
     program = find(given)
     with tempfile.TemporaryDirectory(prefix="qyas-") as folder:
         path = Path(folder) / "problem.qlp"
         path.write_bytes(data)
-        return run(program, str(path), clock)
+        return run([program, "solve", str(path), *budget(nodes)], clock)
 
 
-def run(program: str, path: str, clock: Optional[TextIO] = None) -> IO[bytes]:
-    """Runs `qyas solve PATH`: a file open at the beginning of the certificate, or the named error of its status."""
+def budget(nodes: Optional[int]) -> List[str]:
+    """The words for a budget, where one is given."""
+    if nodes is None:
+        return []
+    if not 1 <= nodes <= MOST_NODES:
+        raise WrongWords(f"a budget has 1 to {MOST_NODES} entries, and not {nodes}")
+    return ["--nodes", str(nodes)]
+
+
+def run(words: List[str], clock: Optional[TextIO] = None) -> IO[bytes]:
+    """Runs `qyas solve`: a file open at the beginning of the certificate, or the named error of its status."""
     output = tempfile.TemporaryFile(prefix="qyas-")
     try:
-        status = watched([program, "solve", path], output, clock)
+        status = watched(words, output, clock)
         output.seek(0)
         if status != 0:
             raise fault_of(status, output.read().decode("latin-1").strip())
@@ -144,6 +158,8 @@ def fault_of(status: int, line: str) -> Exception:
         return Memory("memory: it ran out in the program")
     if status == 7:
         return NumberLeaves(f"leaves: the linear program of a leaf needs numbers beyond 128 bits {place_of(line)}".strip())
+    if status == 8:
+        return Spent(f"{line.split(chr(10), 1)[0]}: the search has made all its entries; give it more (--nodes, at most {MOST_NODES})")
     if status in (-2, -15):
         return Interrupted("the program was interrupted")
     if status == -9:

@@ -52,11 +52,12 @@ def solve(
     qyas_path: Optional[str] = None,
     clock: Optional[TextIO] = None,
     save: Optional[str] = None,
+    nodes: Optional[int] = None,
 ) -> Solution:
-    """Solves a problem by the program `qyas`. `save` names a file for the certificate."""
+    """Solves a problem by the program `qyas`, within a budget of `nodes`. `save` names a file for the certificate."""
     data = problem_text(problem)
     game = Game(text.read(data, qyas_path))
-    with program.solve_text(data, qyas_path, clock) as output:
+    with program.solve_text(data, qyas_path, clock, nodes) as output:
         if save is not None:
             copy(output, save)
         return Solution(game, certificate.read(game, output), False)

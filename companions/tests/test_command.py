@@ -44,7 +44,7 @@ class CommandTest(unittest.TestCase):
             self.assertIn(f"example: plan {name} ", out)
 
     def test_wrong_words_end_with_2(self) -> None:
-        for words in ((), ("frob",), ("solve",), ("solve", CREW, "--frob"), ("draw", CREW, "-o", "x.gif"), ("draw", CREW)):
+        for words in ((), ("frob",), ("solve",), ("solve", CREW, "--frob"), ("solve", CREW, "--nodes", "0"), ("draw", CREW, "-o", "x.gif"), ("draw", CREW)):
             status, out, told = plan(*words)
             self.assertEqual((status, out), (2, ""), words)
             self.assertTrue(told)
@@ -95,6 +95,11 @@ class CommandTest(unittest.TestCase):
                 found, _, told = plan(*words)
                 self.assertEqual((found, told.count("\n")), (1, 1))
         self.assertEqual(plan("solve", CREW, QYAS="/nothing")[0], 1)
+
+    def test_a_spent_budget_is_one_line(self) -> None:
+        status, out, told = plan("solve", CREW, "--nodes", "1")
+        self.assertEqual((status, out, told.count("\n")), (8, "", 1))
+        self.assertTrue(told.startswith("spent 1: "))
 
     def test_convert_and_equivalent(self) -> None:
         with support.room() as folder:

@@ -19,6 +19,7 @@ STATUSES = {
     "6": (faults.Limit, "limit variables 1001"),
     "10": (faults.Memory, "memory: it ran out in the program"),
     "7": (faults.NumberLeaves, "leaves: the linear program of a leaf needs numbers beyond 128 bits"),
+    "8": (faults.Spent, "spent 3: the search has made all its entries; give it more (--nodes, at most 50000000)"),
     "13": (faults.ProgramFault, "the program ended with status 13: "),
     "77": (faults.ProgramFault, "the program ended with status 77: "),
 }
@@ -28,7 +29,7 @@ class ProgramTest(unittest.TestCase):
     def test_each_status_is_a_named_error(self) -> None:
         with support.room() as folder:
             for status, (kind, line) in STATUSES.items():
-                words = [f"echo '{line}'"] if status == "6" else []
+                words = [f"echo '{line}'"] if status == "6" else ["echo 'spent 3'", "echo 'g 0 0'"] if status == "8" else []
                 fake = support.fake_program(folder, [*words, f"exit {status}"])
                 with self.assertRaises(kind) as caught:
                     program.solve_text(b"", fake)
@@ -39,6 +40,17 @@ class ProgramTest(unittest.TestCase):
             fault = told.exception
             self.assertEqual((fault.line, fault.column, fault.words), (3, 14, "expected line end"))
             self.assertEqual(fault.status, 5)
+
+    def test_a_budget_is_handed_on(self) -> None:
+        with support.room() as folder:
+            told = f"{folder}/words"
+            fake = support.fake_program(folder, [f'shift 2; echo "$@" > {told}'])
+            for nodes, words in ((None, ""), (1, "--nodes 1"), (50_000_000, "--nodes 50000000")):
+                program.solve_text(b"", fake, nodes=nodes).close()
+                self.assertEqual(Path(told).read_text(), f"{words}\n")
+            for nodes in (0, -1, 50_000_001):
+                with self.assertRaises(faults.WrongWords):
+                    program.solve_text(b"", fake, nodes=nodes)
 
     def test_a_killed_program_is_told(self) -> None:
         with support.room() as folder:

@@ -3,7 +3,8 @@ ghost use Rattle.std.specs.Prelude.{◌≤◌, length};
 use crate::bytes::bytes_of;
 use crate::lines::first_line;
 use qm_game::Game;
-use qm_top::stated_by;
+use qm_io::{List, MemorySink};
+use qm_top::{Report, stated_by};
 use std::alloc::{AllocError, Global};
 
 /// The most bytes of a text that states a game.
@@ -34,9 +35,15 @@ fn stated_by_text(alloc: Global, text: &[u8]) -> Result<Stated, AllocError>
 {
     match stated_by(alloc, text) {
         Ok(qm_top::Stated::Game(game)) => Ok(Stated::Game(game)),
-        Ok(qm_top::Stated::Refused(report)) => {
-            Ok(Stated::Nothing(first_line(alloc, report.text())?))
-        }
+        Ok(qm_top::Stated::Refused(report)) => refused(alloc, &report),
+        Err(_) => nothing(alloc, "memory"),
+    }
+}
+
+fn refused(alloc: Global, report: &Report) -> Result<Stated, AllocError> {
+    let mut out = MemorySink::new(alloc, 4096, List::new(alloc));
+    match report.write(&mut out) {
+        Ok(()) => Ok(Stated::Nothing(first_line(alloc, out.bytes())?)),
         Err(_) => nothing(alloc, "memory"),
     }
 }

@@ -1,8 +1,10 @@
 -- Which answers there are.
-use Rattle.std.proofs.Common.{◌≡◌, ◌⊎◌, ◌<◌, ◌≤◌, ℕ, List, ◌++◌, Option, Some, None, Result, Ok, Err, IfOk, append-nil, inl, inr, arith, length, length-append, ap, subst, sym, ◌∙◌}
+use Rattle.std.proofs.Common.{◌≡◌, ◌≢◌, ◌⊎◌, ◌<◌, ◌≤◌, ℕ, List, ◌++◌, Option, Some, None, Result, Ok, Err, IfOk, append-nil, inl, inr, arith, length, length-append, ap, subst, sym, ◌∙◌}
 use Rattle.std.specs.Prelude.{codes}
 use Rattle.std.specs.Io.KnownBytes.{Appends, Consumes, IsAtEnd}
 use Rattle.qm_io.specs.Causes.{Rose}
+use Rattle.qm_journal.specs.Enough.{enough}
+use Rattle.qm_journal.proofs.Counting.{lawful_below_enough}
 use Rattle.qm_model.specs.declared.game.Problem.{Problem}
 use Rattle.qm_model.specs.Sound.{IsSound}
 use Rattle.qm_certfile.specs.declared.certificate.Certificate.{Certificate}
@@ -20,12 +22,10 @@ use Rattle.qm_normal.specs.Normal.{normal_form}
 use Rattle.qm_normal.specs.Stated.{States}
 use Rattle.qm_normal.proofs.StatedOnce.{one_problem}
 use Rattle.qm_parse.proofs.OneSymbols.{OneDecimal}
-use Rattle.qm_top.specs.declared.command.Command.{Command}
 use Rattle.qm_top.specs.declared.command.Command.TheVariants.{Solve}
-use Rattle.qm_top.specs.Words.{Asks}
 use Rattle.qm_top.specs.Lines.{line}
 use Rattle.qm_top.specs.Completeness.{IsDueTo, IsDue, IsNoMemory, IsReport}
-use Rattle.qm_top.specs.Answers.{Claims, IsAnswer, Reading, Solves, SolvesProblem, SolvesText, misused, solved, whole_text, longer, failed, no_room, claimed, left, stated, refused, out_of_memory}
+use Rattle.qm_top.specs.Answers.{Claims, IsAnswer, Reading, Solves, SolvesProblem, SolvesText, misused, solved, whole_text, longer, failed, no_room, claimed, left, spent, stated, refused, out_of_memory}
 use Rattle.qm_top.specs.declared.report.Report.{Report}
 use Rattle.qm_top.specs.FaultLines.{TellsNormal}
 use Rattle.qm_top.specs.Refusals.{Refuses, beyond}
@@ -33,6 +33,7 @@ use Rattle.qm_top.specs.Report.{status_of, text_of}
 use Rattle.qm_top.specs.Stating.{IsStated}
 use Rattle.qm_top.specs.declared.stated.Stated.{Stated}
 use Rattle.qm_top.specs.declared.stated.Stated.TheVariants as stating
+use Rattle.qm_top.proofs.OneBudget.{one_budget}
 use Rattle.qm_top.proofs.Refusals.{AreSame, not_refused, one_refusal}
 
 -- a fact of the value in an Ok leads to another
@@ -67,67 +68,96 @@ no_more (Some xs) (Some ys) bytes told is came =
     omega (arith, ap length same, length-append bytes ys)
 
 -- what was told and came to its end is answered as a whole, or memory ran out
-text_told : (read : Reading) (status : ℕ) (text bytes : List ℕ) → read.before ≡ Some bytes → length bytes ≤ 4194304 → ¬ Rose read.faults_before read.faults_after
-    → Solves read status text → SolvesText bytes status text
-text_told read status text bytes told short still (whole_text came consumed end fits answer) =
-    subst (λ bs. SolvesText bs status text) (sym (all_read read.before read.after came bytes told consumed end)) answer
-text_told read status text bytes told short still (longer came consumed long is line) =
+text_told : (read : Reading) (nodes status : ℕ) (text bytes : List ℕ) → read.before ≡ Some bytes → length bytes ≤ 4194304 → ¬ Rose read.faults_before read.faults_after
+    → Solves read nodes status text → SolvesText bytes nodes status text
+text_told read nodes status text bytes told short still (whole_text came consumed end fits answer) =
+    subst (λ bs. SolvesText bs nodes status text) (sym (all_read read.before read.after came bytes told consumed end)) answer
+text_told read nodes status text bytes told short still (longer came consumed long is line) =
     absurd (omega (arith, no_more read.before read.after came bytes told consumed, short))
-text_told read status text bytes told short still (failed some rose is line) = absurd (still rose)
-text_told read status text bytes told short still (no_room some is line) = out_of_memory is line
+text_told read nodes status text bytes told short still (failed some rose is line) = absurd (still rose)
+text_told read nodes status text bytes told short still (no_room some is line) = out_of_memory is line
 
 -- bytes beyond the limit are told to be, or memory ran out
-length_told : (read : Reading) (status : ℕ) (text bytes : List ℕ) → read.before ≡ Some bytes → 4194304 < length bytes → ¬ Rose read.faults_before read.faults_after
-    → Solves read status text → IsReport 6 (line (codes "limit problem")) status text ⊎ IsNoMemory status text
-length_told read status text bytes told long still (whole_text came consumed end fits answer) =
+length_told : (read : Reading) (nodes status : ℕ) (text bytes : List ℕ) → read.before ≡ Some bytes → 4194304 < length bytes → ¬ Rose read.faults_before read.faults_after
+    → Solves read nodes status text → IsReport 6 (line (codes "limit problem")) status text ⊎ IsNoMemory status text
+length_told read nodes status text bytes told long still (whole_text came consumed end fits answer) =
     absurd (omega (arith, ap length (all_read read.before read.after came bytes told consumed end), long, fits))
-length_told read status text bytes told long still (longer came consumed more is line) = inl (is, line)
-length_told read status text bytes told long still (failed some rose is line) = absurd (still rose)
-length_told read status text bytes told long still (no_room some is line) = inr (is, line)
+length_told read nodes status text bytes told long still (longer came consumed more is line) = inl (is, line)
+length_told read nodes status text bytes told long still (failed some rose is line) = absurd (still rose)
+length_told read nodes status text bytes told long still (no_room some is line) = inr (is, line)
 
 -- without continuous variables no number leaves
-whole_answered : (P : Problem) (status : ℕ) (text : List ℕ) → P.wholes ≡ length P.vars → SolvesProblem P status text → (status ≡ 0) × Claims P text
-whole_answered P status text whole (claimed claims zero) = (zero, claims)
-whole_answered P status text whole (left leave right is told) = absurd (omega (arith, whole, right.continuous))
+whole_problem : (P : Problem) (nodes status : ℕ) (text : List ℕ) → P.wholes ≡ length P.vars → SolvesProblem P nodes status text → status ≢ 7
+whole_problem P nodes status text whole (claimed claims is) seven = omega (arith, is, seven)
+whole_problem P nodes status text whole (left leave right is told) seven = omega (arith, whole, right.continuous)
+whole_problem P nodes status text whole (spent entries spends is told) seven = omega (arith, is, seven)
+
+-- a lawful journal has fewer entries than are enough
+ample_problem : (P : Problem) (nodes status : ℕ) (text : List ℕ) → enough P ≤ nodes → SolvesProblem P nodes status text → status ≢ 8
+ample_problem P nodes status text ample (claimed claims is) eight = omega (arith, is, eight)
+ample_problem P nodes status text ample (left leave right is told) eight = omega (arith, is, eight)
+ample_problem P nodes status text ample (spent entries spends is told) eight =
+    let few : length entries < enough P = lawful_below_enough P entries spends.lawful.lawful in
+    let all : length entries ≡ nodes = spends.spent in
+    omega (arith, few, all, ample)
+
+sure_problem : (P : Problem) (nodes status : ℕ) (text : List ℕ) → P.wholes ≡ length P.vars → enough P ≤ nodes → SolvesProblem P nodes status text → (status ≡ 0) × Claims P text
+sure_problem P nodes status text whole ample (claimed claims is) = (is, claims)
+sure_problem P nodes status text whole ample (left leave right is told) = absurd (whole_problem P nodes status text whole (left leave right is told) is)
+sure_problem P nodes status text whole ample (spent entries spends is told) = absurd (ample_problem P nodes status text ample (spent entries spends is told) is)
 
 -- the problem that is answered is the one that the bytes state
-stated_answered : OneDecimal → (bytes : List ℕ) (P : Problem) (status : ℕ) (text : List ℕ) → States bytes P → SolvesText bytes status text → SolvesProblem P status text ⊎ IsNoMemory status text
-stated_answered law bytes P status text states (stated Q also answer) =
-    inl (subst (λ R. SolvesProblem R status text) (one_problem law bytes Q P also states) answer)
-stated_answered law bytes P status text states (refused refusal) = absurd (not_refused law bytes P status text states refusal)
-stated_answered law bytes P status text states (out_of_memory is line) = inr (is, line)
+stated_answered : OneDecimal → (bytes : List ℕ) (P : Problem) (nodes status : ℕ) (text : List ℕ) → States bytes P → SolvesText bytes nodes status text
+    → SolvesProblem P nodes status text ⊎ IsNoMemory status text
+stated_answered law bytes P nodes status text states (stated Q also answer) =
+    inl (subst (λ R. SolvesProblem R nodes status text) (one_problem law bytes Q P also states) answer)
+stated_answered law bytes P nodes status text states (refused refusal) = absurd (not_refused law bytes P status text states refusal)
+stated_answered law bytes P nodes status text states (out_of_memory is line) = inr (is, line)
 
-whole_text_answered : OneDecimal → (bytes : List ℕ) (P : Problem) (status : ℕ) (text : List ℕ) → States bytes P → P.wholes ≡ length P.vars → SolvesText bytes status text → ((status ≡ 0) × Claims P text) ⊎ IsNoMemory status text
-whole_text_answered law bytes P status text states whole answer =
-    elim (stated_answered law bytes P status text states answer) [ inl solves ↦ inl (whole_answered P status text whole solves) | inr is ↦ inr is ]
+-- what follows from the answer about the problem, or from want of memory, follows from the answer about its bytes
+stated_told : OneDecimal → (A : Type 0) (bytes : List ℕ) (P : Problem) (nodes status : ℕ) (text : List ℕ) → States bytes P → SolvesText bytes nodes status text
+    → (SolvesProblem P nodes status text → A) → (IsNoMemory status text → A) → A
+stated_told law A bytes P nodes status text states answer told none =
+    elim (stated_answered law bytes P nodes status text states answer) [ inl solves ↦ told solves | inr is ↦ none is ]
 
-refused_text_answered : OneDecimal → (bytes : List ℕ) (status other : ℕ) (text another : List ℕ) → Refuses bytes status text → SolvesText bytes other another → AreSame other status another text ⊎ IsNoMemory other another
-refused_text_answered law bytes status other text another refusal (stated P states answer) = absurd (not_refused law bytes P status text states refusal)
-refused_text_answered law bytes status other text another refusal (refused also) = inl (one_refusal law bytes other status another text also refusal)
-refused_text_answered law bytes status other text another refusal (out_of_memory is line) = inr (is, line)
+refused_text_answered : OneDecimal → (bytes : List ℕ) (nodes status other : ℕ) (text another : List ℕ) → Refuses bytes status text → SolvesText bytes nodes other another
+    → AreSame other status another text ⊎ IsNoMemory other another
+refused_text_answered law bytes nodes status other text another refusal (stated P states answer) = absurd (not_refused law bytes P status text states refusal)
+refused_text_answered law bytes nodes status other text another refusal (refused also) = inl (one_refusal law bytes other status another text also refusal)
+refused_text_answered law bytes nodes status other text another refusal (out_of_memory is line) = inr (is, line)
 
 -- what is answered about what was told, by its bytes
-bytes_answered : OneDecimal → (read : Reading) (status : ℕ) (text bytes : List ℕ) → read.before ≡ Some bytes → ¬ Rose read.faults_before read.faults_after → Solves read status text → IsDue bytes status text
-bytes_answered law read status text bytes told still solves = record {
-  long = λ many. length_told read status text bytes told many still solves;
-  solved = λ P short states. stated_answered law bytes P status text states (text_told read status text bytes told short still solves);
-  whole = λ P short states all. whole_text_answered law bytes P status text states all (text_told read status text bytes told short still solves);
-  refused = λ other why short refusal. refused_text_answered law bytes other status why text refusal (text_told read status text bytes told short still solves);
-}
+bytes_answered : OneDecimal → (read : Reading) (nodes status : ℕ) (text bytes : List ℕ) → read.before ≡ Some bytes → ¬ Rose read.faults_before read.faults_after
+    → Solves read nodes status text → IsDue bytes nodes status text
+bytes_answered law read nodes status text bytes told still solves =
+    let answer : length bytes ≤ 4194304 → SolvesText bytes nodes status text = λ short. text_told read nodes status text bytes told short still solves in
+    record {
+      long = λ many. length_told read nodes status text bytes told many still solves;
+      solved = λ P short states. stated_answered law bytes P nodes status text states (answer short);
+      whole = λ P short states all. stated_told law (status ≢ 7) bytes P nodes status text states (answer short)
+          (whole_problem P nodes status text all) (λ memory seven. omega (arith, memory.0, seven));
+      ample = λ P short states many. stated_told law (status ≢ 8) bytes P nodes status text states (answer short)
+          (ample_problem P nodes status text many) (λ memory eight. omega (arith, memory.0, eight));
+      sure = λ P short states all many. stated_told law (((status ≡ 0) × Claims P text) ⊎ IsNoMemory status text) bytes P nodes status text states (answer short)
+          (λ solves. inl (sure_problem P nodes status text all many solves)) (λ memory. inr memory);
+      refused = λ other why short refusal. refused_text_answered law bytes nodes other status why text refusal (answer short);
+    }
 
 complete_answer : OneDecimal → (words : List (List ℕ)) (read : Reading) (status : ℕ) (text : List ℕ) → IsAnswer words read status text → IsDueTo words read status text
 complete_answer law words read status text (misused none unread is line) =
-    record { misused = λ no. (is, line); solve = λ bytes asks told still. absurd (none Solve asks) }
-complete_answer law words read status text (solved asks solves) =
-    record { misused = λ no. absurd (no Solve asks); solve = λ bytes also told still. bytes_answered law read status text bytes told still solves }
+    record { misused = λ no. (is, line); solve = λ nodes bytes asks told still. absurd (none (Solve nodes) asks) }
+complete_answer law words read status text (solved nodes asks solves) = record {
+  misused = λ no. absurd (no (Solve nodes) asks);
+  solve = λ others bytes also told still.
+      subst (λ n. IsDue bytes n status text) (one_budget words nodes others asks also) (bytes_answered law read nodes status text bytes told still solves);
+}
 
 -- the sink took the text of a report
-pub complete_report : OneDecimal → (before after : Option (List ℕ)) (words : List (List ℕ)) (read : Reading) (status due : ℕ) (text told : List ℕ)
-    → IsAnswer words read due told → status ≡ due → text ≡ told → Appends before after text
+pub complete_report : OneDecimal → (before after : Option (List ℕ)) (words : List (List ℕ)) (read : Reading) (status due : ℕ) (text : List ℕ)
+    → IsAnswer words read due text → status ≡ due → Appends before after text
     → (taken : List ℕ) × Appends before after taken × IsDueTo words read status taken
-complete_report law before after words read status due text told answer is same taken =
-    let with_text : IsAnswer words read due text = subst (λ t. IsAnswer words read due t) (sym same) answer in
-    (text, taken, complete_answer law words read status text (subst (λ n. IsAnswer words read n text) (sym is) with_text))
+complete_report law before after words read status due text answer is taken =
+    (text, taken, complete_answer law words read status text (subst (λ n. IsAnswer words read n text) (sym is) answer))
 
 -- a fault of scope or of a limit that is told isn't want of memory
 told_form : (ast : Ast) (fault : NormalFault) (status : ℕ) (text : List ℕ) → Gives (Err fault) (normal_form ast) → TellsNormal fault status text → normal_form ast ≡ Err fault
@@ -148,17 +178,14 @@ lent : (bytes others : List ℕ) (told case : Stated) → others ≡ bytes → t
 lent bytes others told case same is states = subst (λ t. IsStated bytes t) is (subst (λ bs. IsStated bs told) same states)
 
 -- what is answered about bytes, by what they come to
-pub refused_answered : (bytes others : List ℕ) (told : Stated) (report : Report) → others ≡ bytes → told ≡ stating.Refused report → IsStated others told → SolvesText bytes (status_of report) (text_of report)
-refused_answered bytes others told report same is states = refused (lent bytes others told (stating.Refused report) same is states)
+pub refused_answered : (bytes others : List ℕ) (nodes : ℕ) (told : Stated) (report : Report) → others ≡ bytes → told ≡ stating.Refused report → IsStated others told
+    → SolvesText bytes nodes (status_of report) (text_of report)
+refused_answered bytes others nodes told report same is states = refused (lent bytes others told (stating.Refused report) same is states)
 
-pub game_answered : (bytes others : List ℕ) (told : Stated) (P : Problem) → others ≡ bytes → told ≡ stating.Game P → IsStated others told
-    → (status : ℕ) (text : List ℕ) → SolvesProblem P status text → SolvesText bytes status text
-game_answered bytes others told P same is states status text solves = stated P (lent bytes others told (stating.Game P) same is states) solves
+pub game_answered : (bytes others : List ℕ) (nodes : ℕ) (told : Stated) (P : Problem) → others ≡ bytes → told ≡ stating.Game P → IsStated others told
+    → (status : ℕ) (text : List ℕ) → SolvesProblem P nodes status text → SolvesText bytes nodes status text
+game_answered bytes others nodes told P same is states status text solves = stated P (lent bytes others told (stating.Game P) same is states) solves
 
 -- a report, by its status and its text
 abbrev pub Reports : (ℕ → List ℕ → Type 0) → Report → Type 0
 Reports P report = P (status_of report) (text_of report)
-
--- there is one command
-pub asks_solve : (command : Command) (words : List (List ℕ)) → Asks command words → Asks Solve words
-asks_solve Solve words asks = asks

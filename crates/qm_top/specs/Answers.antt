@@ -12,14 +12,17 @@ use Rattle.qm_certfile.specs.declared.certificate.Certificate.{Certificate}
 use Rattle.qm_certfile.specs.CertificateLines.{certificate_text}
 use Rattle.qm_certfile.specs.Passes.{AnswersPlay, Passes, ending_of}
 use Rattle.qm_search.specs.declared.fault.Leave.{Leave}
-use Rattle.qm_search.specs.Faults.{IsAny}
+use Rattle.qm_search.specs.Entering.{IsEnterable, MayHold}
+use Rattle.qm_journal.specs.declared.entry.JEntry.{JEntry}
+use Rattle.qm_journal.specs.Lawful.{SpendsBudget}
 use Rattle.qm_simplex.specs.RightLeaves.{IsRightLeave}
 use Rattle.qm_top.specs.declared.command.Command.{Command}
 use Rattle.qm_top.specs.declared.command.Command.TheVariants.{Solve}
 use Rattle.qm_top.specs.Words.{Asks}
 use Rattle.qm_top.specs.LeaveLines.{leave_text}
-use Rattle.qm_top.specs.Lines.{line}
+use Rattle.qm_top.specs.Lines.{line, usage}
 use Rattle.qm_top.specs.Refusals.{Refuses}
+use Rattle.qm_top.specs.SpentLines.{spent_text}
 
 -- what became of a source: the bytes that it had left and has left, where it tells them, and its faults
 pub record Reading : Type 0 where
@@ -45,34 +48,36 @@ pub record Claims (P : Problem) (text : List ℕ) : Type 0 where
   pub ending : HasEnding P (ending_of certificate)
   pub answers : (us : List ℤ) → IsPlay P us → AnswersPlay P us certificate
 
--- What `solve` answers about a problem: its ending, or the first operation that leaves the range in the leaf run of a
--- complete prefix, which only a problem with continuous variables has.
-pub data SolvesProblem (P : Problem) (status : ℕ) (text : List ℕ) : Type 0 where
-  claimed : Claims P text → status ≡ 0 → SolvesProblem P status text
-  left : (leave : Leave) → IsRightLeave P IsAny leave.prefix leave.run → status ≡ 7 → text ≡ leave_text leave → SolvesProblem P status text
+-- What `solve` answers about a problem with a budget: its ending; or the first operation that leaves the range in the
+-- leaf run of a complete prefix, each shorter one of which may be entered, which only a problem with continuous
+-- variables has; or a lawful journal of this search that spends the budget.
+pub data SolvesProblem (P : Problem) (nodes status : ℕ) (text : List ℕ) : Type 0 where
+  claimed : Claims P text → status ≡ 0 → SolvesProblem P nodes status text
+  left : (leave : Leave) → IsRightLeave P (IsEnterable P) leave.prefix leave.run → status ≡ 7 → text ≡ leave_text leave → SolvesProblem P nodes status text
+  spent : (entries : List JEntry) → SpendsBudget P (MayHold P) nodes entries → status ≡ 8 → text ≡ spent_text entries → SolvesProblem P nodes status text
 
 -- what `solve` answers about the whole bytes of a problem
-pub data SolvesText (bytes : List ℕ) (status : ℕ) (text : List ℕ) : Type 0 where
-  stated : (P : Problem) → States bytes P → SolvesProblem P status text → SolvesText bytes status text
+pub data SolvesText (bytes : List ℕ) (nodes status : ℕ) (text : List ℕ) : Type 0 where
+  stated : (P : Problem) → States bytes P → SolvesProblem P nodes status text → SolvesText bytes nodes status text
   -- they state no problem
-  refused : Refuses bytes status text → SolvesText bytes status text
-  out_of_memory : status ≡ 10 → text ≡ line (codes "memory") → SolvesText bytes status text
+  refused : Refuses bytes status text → SolvesText bytes nodes status text
+  out_of_memory : status ≡ 10 → text ≡ line (codes "memory") → SolvesText bytes nodes status text
 
 -- what `solve` answers, by what was read of the problem: at most 4,194,305 bytes
-pub data Solves (read : Reading) (status : ℕ) (text : List ℕ) : Type 0 where
+pub data Solves (read : Reading) (nodes status : ℕ) (text : List ℕ) : Type 0 where
   -- the problem was read to its end
-  whole_text : (bytes : List ℕ) → Consumes read.before read.after bytes → IsAtEnd read.after → length bytes ≤ 4194304 → SolvesText bytes status text → Solves read status text
+  whole_text : (bytes : List ℕ) → Consumes read.before read.after bytes → IsAtEnd read.after → length bytes ≤ 4194304 → SolvesText bytes nodes status text → Solves read nodes status text
   -- the problem is longer than the limit
-  longer : (bytes : List ℕ) → Consumes read.before read.after bytes → length bytes ≡ 4194305 → status ≡ 6 → text ≡ line (codes "limit problem") → Solves read status text
+  longer : (bytes : List ℕ) → Consumes read.before read.after bytes → length bytes ≡ 4194305 → status ≡ 6 → text ≡ line (codes "limit problem") → Solves read nodes status text
   -- the source failed
-  failed : TookSome read.before read.after 4194305 → Rose read.faults_before read.faults_after → status ≡ 3 → text ≡ line (codes "read problem") → Solves read status text
+  failed : TookSome read.before read.after 4194305 → Rose read.faults_before read.faults_after → status ≡ 3 → text ≡ line (codes "read problem") → Solves read nodes status text
   -- there was no memory for the bytes
-  no_room : TookSome read.before read.after 4194305 → status ≡ 10 → text ≡ line (codes "memory") → Solves read status text
+  no_room : TookSome read.before read.after 4194305 → status ≡ 10 → text ≡ line (codes "memory") → Solves read nodes status text
 
 -- The answers, by command. Where the words are none of the forms, nothing is read and the usage is told.
 pub data IsAnswer (words : List (List ℕ)) (problem : Reading) (status : ℕ) (text : List ℕ) : Type 0 where
-  misused : ((command : Command) → ¬ Asks command words) → IsUnread problem → status ≡ 2 → text ≡ line (codes "usage: qyas solve FILE") → IsAnswer words problem status text
-  solved : Asks Solve words → Solves problem status text → IsAnswer words problem status text
+  misused : ((command : Command) → ¬ Asks command words) → IsUnread problem → status ≡ 2 → text ≡ usage → IsAnswer words problem status text
+  solved : (nodes : ℕ) → Asks (Solve nodes) words → Solves problem nodes status text → IsAnswer words problem status text
 
 -- the sink took exactly the text that goes with this status
 pub record Took (before after : Option (List ℕ)) (words : List (List ℕ)) (problem : Reading) (status : ℕ) : Type 0 where

@@ -1,12 +1,13 @@
 -- Which answer can come for which input, where the problem's source tells its bytes and doesn't fail.
-use Rattle.std.specs.Prelude.{◌≡◌, ◌⊎◌, ◌<◌, ◌≤◌, ℕ, List, Some, codes, length}
+use Rattle.std.specs.Prelude.{◌≡◌, ◌≢◌, ◌⊎◌, ◌<◌, ◌≤◌, ℕ, List, Some, codes, length}
 use Rattle.qm_io.specs.Causes.{Rose}
+use Rattle.qm_journal.specs.Enough.{enough}
 use Rattle.qm_model.specs.declared.game.Problem.{Problem}
 use Rattle.qm_normal.specs.Stated.{States}
 use Rattle.qm_top.specs.declared.command.Command.{Command}
 use Rattle.qm_top.specs.declared.command.Command.TheVariants.{Solve}
 use Rattle.qm_top.specs.Answers.{Claims, Reading, SolvesProblem}
-use Rattle.qm_top.specs.Lines.{line}
+use Rattle.qm_top.specs.Lines.{line, usage}
 use Rattle.qm_top.specs.Refusals.{Refuses}
 use Rattle.qm_top.specs.Words.{Asks}
 
@@ -18,16 +19,20 @@ IsNoMemory status text = (status ≡ 10) × (text ≡ line (codes "memory"))
 abbrev pub IsReport : ℕ → List ℕ → ℕ → List ℕ → Type 0
 IsReport due told status text = (status ≡ due) × (text ≡ told)
 
--- What `solve` answers about the bytes of a problem. Bytes that aren't too many state a problem or are refused with one
--- status and one text, and not both (`stated_or_refused`).
-pub record IsDue (bytes : List ℕ) (status : ℕ) (text : List ℕ) : Type 0 where
+-- What `solve` answers about the bytes of a problem with a budget. Bytes that aren't too many state a problem or are
+-- refused with one status and one text, and not both (`stated_or_refused`).
+pub record IsDue (bytes : List ℕ) (nodes status : ℕ) (text : List ℕ) : Type 0 where
   pub long : 4194304 < length bytes → IsReport 6 (line (codes "limit problem")) status text ⊎ IsNoMemory status text
-  pub solved : (P : Problem) → length bytes ≤ 4194304 → States bytes P → SolvesProblem P status text ⊎ IsNoMemory status text
+  pub solved : (P : Problem) → length bytes ≤ 4194304 → States bytes P → SolvesProblem P nodes status text ⊎ IsNoMemory status text
   -- without continuous variables no number leaves
-  pub whole : (P : Problem) → length bytes ≤ 4194304 → States bytes P → P.wholes ≡ length P.vars → ((status ≡ 0) × Claims P text) ⊎ IsNoMemory status text
+  pub whole : (P : Problem) → length bytes ≤ 4194304 → States bytes P → P.wholes ≡ length P.vars → status ≢ 7
+  -- a budget that is enough for every lawful journal isn't spent
+  pub ample : (P : Problem) → length bytes ≤ 4194304 → States bytes P → enough P ≤ nodes → status ≢ 8
+  -- so where both hold the problem is solved
+  pub sure : (P : Problem) → length bytes ≤ 4194304 → States bytes P → P.wholes ≡ length P.vars → enough P ≤ nodes → ((status ≡ 0) × Claims P text) ⊎ IsNoMemory status text
   pub refused : (due : ℕ) (told : List ℕ) → length bytes ≤ 4194304 → Refuses bytes due told → IsReport due told status text ⊎ IsNoMemory status text
 
 -- the same by the words; where they are no form, the source tells nothing about the answer
 pub record IsDueTo (words : List (List ℕ)) (problem : Reading) (status : ℕ) (text : List ℕ) : Type 0 where
-  pub misused : ((command : Command) → ¬ Asks command words) → IsReport 2 (line (codes "usage: qyas solve FILE")) status text
-  pub solve : (bytes : List ℕ) → Asks Solve words → problem.before ≡ Some bytes → ¬ Rose problem.faults_before problem.faults_after → IsDue bytes status text
+  pub misused : ((command : Command) → ¬ Asks command words) → IsReport 2 usage status text
+  pub solve : (nodes : ℕ) (bytes : List ℕ) → Asks (Solve nodes) words → problem.before ≡ Some bytes → ¬ Rose problem.faults_before problem.faults_after → IsDue bytes nodes status text

@@ -2,8 +2,10 @@ pub mod Words
 pub mod Lines
 pub mod FaultLines
 pub mod Refusals
+pub mod PieceSteps
 pub mod Report
 pub mod Stating
 pub mod LeaveLines
+pub mod SpentLines
 pub mod Answers
 pub mod Completeness

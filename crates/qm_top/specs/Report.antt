@@ -1,8 +1,9 @@
 -- The status and the text of a report.
 use Rattle.std.specs.Prelude.{ℕ, List, codes}
 use Rattle.qm_top.specs.declared.report.Report.{Report}
-use Rattle.qm_top.specs.declared.report.Report.TheVariants.{Usage, ReadProblem, Text, Long, Limit, Leaves, Memory, Certificate}
-use Rattle.qm_top.specs.Lines.{line}
+use Rattle.qm_top.specs.declared.report.Report.TheVariants.{Usage, ReadProblem, Text, Long, Limit, Leaves, Spent, Memory, Certificate}
+use Rattle.qm_top.specs.Lines.{line, usage}
+use Rattle.qm_top.specs.SpentLines.{spent_text}
 
 abbrev pub status_of : Report → ℕ
 status_of Usage = 2
@@ -11,15 +12,17 @@ status_of (Text why) = 5
 status_of Long = 6
 status_of (Limit why) = 6
 status_of (Leaves at) = 7
+status_of (Spent journal) = 8
 status_of Memory = 10
 status_of (Certificate text) = 0
 
 abbrev pub text_of : Report → List ℕ
-text_of Usage = line (codes "usage: qyas solve FILE")
+text_of Usage = usage
 text_of ReadProblem = line (codes "read problem")
 text_of (Text why) = why
 text_of Long = line (codes "limit problem")
 text_of (Limit why) = why
 text_of (Leaves at) = at
+text_of (Spent journal) = spent_text journal.entries
 text_of Memory = line (codes "memory")
 text_of (Certificate text) = text

@@ -1,8 +1,17 @@
 -- The words that the program is called with, and what they ask for.
-use Rattle.std.specs.Prelude.{◌≡◌, ◌≢◌, ℕ, List, [], ◌∷◌, codes}
+use Rattle.std.specs.Prelude.{◌≡◌, ◌≢◌, ◌⊎◌, ◌≤◌, ℕ, List, [], ◌∷◌, codes}
+use Rattle.std.specs.Fmt.{decimal}
 use Rattle.qm_top.specs.declared.command.Command.{Command}
 use Rattle.qm_top.specs.declared.command.Command.TheVariants.{Solve}
 
--- `solve FILE`, where FILE isn't empty
+-- a budget that may be asked for
+abbrev pub IsBudget : ℕ → Type 0
+IsBudget nodes = (1 ≤ nodes) × (nodes ≤ 50000000)
+
+-- the words behind FILE: none, for the usual budget; or `--nodes N`, with N in decimal
+abbrev pub AsksNodes : ℕ → List (List ℕ) → Type 0
+AsksNodes nodes words = ((words ≡ []) × (nodes ≡ 1000000)) ⊎ ((words ≡ codes "--nodes" ∷ decimal nodes ∷ []) × IsBudget nodes)
+
+-- `solve FILE` or `solve FILE --nodes N`, where FILE isn't empty
 abbrev pub Asks : Command → List (List ℕ) → Type 0
-Asks Solve words = (file : List ℕ) × (file ≢ []) × (words ≡ codes "solve" ∷ file ∷ [])
+Asks (Solve nodes) words = (file : List ℕ) × (behind : List (List ℕ)) × (file ≢ []) × (words ≡ codes "solve" ∷ file ∷ behind) × AsksNodes nodes behind

@@ -14,9 +14,11 @@ mod command;
 mod fault_lines;
 mod laws;
 mod leave_lines;
+mod piece;
 mod refusal;
 mod report;
 mod solve;
+mod spent_lines;
 mod stated;
 mod top;
 

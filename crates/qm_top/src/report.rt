@@ -1,7 +1,12 @@
-ghost use Rattle.std.specs.Prelude.{◌≡◌};
+ghost use Rattle.std.specs.Prelude.{◌≡◌, OnErr, OnOk};
+ghost use Rattle.std.specs.Io.KnownBytes.{Appends};
+ghost use Rattle.qm_io.specs.Bytes.{AppendsFront};
+ghost use Rattle.qm_io.specs.Causes.{HasCause};
 ghost use Rattle.qm_top.specs.Report.{status_of, text_of};
 
-use qm_io::List;
+use crate::spent_lines::write_spent;
+use qm_io::{Failed, List, Sink, write_all};
+use qm_journal::Journal;
 
 /// What is answered.
 #[derive(Debug, Drop)]
@@ -18,6 +23,8 @@ pub enum Report {
     Limit(List<u8>),
     /// A number leaves the range: the lines that say where.
     Leaves(List<u8>),
+    /// The budget is spent: the journal that spends it.
+    Spent(Journal),
     /// Memory ran out.
     Memory,
     /// The ending, as the text of its certificate.
@@ -36,24 +43,28 @@ impl Report {
             Report::Long => 6,
             Report::Limit(_) => 6,
             Report::Leaves(_) => 7,
+            Report::Spent(_) => 8,
             Report::Memory => 10,
             Report::Certificate(_) => 0,
         }
     }
 
-    /// What is written.
-    pub fn text(&self) -> &[u8]
-        ensures { result.now ≡ text_of self.now }
+    /// Writes the report. `Failed`, where the sink failed before it had taken all.
+    pub fn write<O: Sink>(&self, out: &mut O) -> Result<(), Failed>
+        ensures ok { OnOk result (Appends (O.taken out.old) (O.taken out.new) (text_of self.now)) }
+        ensures err { OnErr result (AppendsFront (O.taken out.old) (O.taken out.new) (text_of self.now)) }
+        ensures cause { HasCause (O.faults out.old) (O.faults out.new) result }
     {
         match self {
-            Report::Usage => b"usage: qyas solve FILE\n",
-            Report::ReadProblem => b"read problem\n",
-            Report::Text(why) => why.as_slice(),
-            Report::Long => b"limit problem\n",
-            Report::Limit(why) => why.as_slice(),
-            Report::Leaves(at) => at.as_slice(),
-            Report::Memory => b"memory\n",
-            Report::Certificate(text) => text.as_slice(),
+            Report::Usage => write_all(out, b"usage: qyas solve FILE [--nodes N]\n"),
+            Report::ReadProblem => write_all(out, b"read problem\n"),
+            Report::Text(why) => write_all(out, why.as_slice()),
+            Report::Long => write_all(out, b"limit problem\n"),
+            Report::Limit(why) => write_all(out, why.as_slice()),
+            Report::Leaves(at) => write_all(out, at.as_slice()),
+            Report::Spent(journal) => write_spent(journal.entries(), out),
+            Report::Memory => write_all(out, b"memory\n"),
+            Report::Certificate(text) => write_all(out, text.as_slice()),
         }
     }
 }

@@ -7,10 +7,10 @@ ghost use Rattle.qm_top.specs.Completeness.{IsDueTo};
 ghost use Rattle.qm_top.specs.Report.{status_of, text_of};
 ghost use Rattle.qm_top.specs.Words.{Asks};
 
-use crate::command::{Command, command_of};
+use crate::command::command_of;
 use crate::report::Report;
 use crate::solve::solve;
-use qm_io::{Sink, Source, write_all};
+use qm_io::{Sink, Source};
 use qm_text::one_decimal_a_word;
 use std::alloc::Global;
 
@@ -25,7 +25,7 @@ fn answer<P: Source>(alloc: Global, words: &[String], problem: &mut P) -> Report
 {
     match command_of(words) {
         None => Report::Usage,
-        Some(Command::Solve) => solve(alloc, problem),
+        Some(command) => solve(alloc, problem, command.nodes()),
     }
 }
 
@@ -62,7 +62,7 @@ pub fn run<P: Source, C: Source, M: Source, O: Sink>(
     let _ = &*certificate;
     let _ = &*moves;
     let report = answer(alloc, words, problem);
-    match write_all(out, report.text()) {
+    match report.write(out) {
         Ok(()) => report.status(),
         Err(_) => WRITE,
     }

@@ -6,9 +6,10 @@ if exists("b:current_syntax")
 endif
 
 syntax match certClaim "^\%(optimal\|infeasible\|empty\)\>"
-syntax match certPart "^\%(certificate\|legal\|policy\|refute\|end\|leaves\|prefix\|pivot\|at\)\>"
+syntax match certPart "^\%(certificate\|legal\|policy\|refute\|end\|leaves\|prefix\|pivot\|at\|spent\)\>"
 syntax match certOurs "^\%(choose\|leaf\|over\)\>"
 syntax match certTheirs "^\%(answer\|pick\|illegal\|split\)\>"
+syntax match certEntry "^[gql]\ze \d"
 syntax match certRange "^range\>"
 syntax match certClose "^close\>"
 syntax match certRow "\<[ru]\d\+\ze="
@@ -18,6 +19,7 @@ highlight default link certClaim Title
 highlight default link certPart Statement
 highlight default link certOurs Function
 highlight default link certTheirs Type
+highlight default link certEntry Function
 highlight default link certRange Comment
 highlight default link certClose Keyword
 highlight default link certRow Identifier

@@ -1,6 +1,9 @@
 use Rattle.qm_top.specs.Answers.{solved}
-use Rattle.qm_top.proofs.Answering.{asks_solve}
+use Rattle.qm_top.proofs.OneBudget.{asks_budget}
 use Rattle.qm_top.proofs.top.answer.Goals as goal
 
-pub returns-in-Some-Solve-clause-answer : goal.returns-in-Some-Solve-clause-answer
-returns-in-Some-Solve-clause-answer g c = solved (asks_solve c.in-Some-Solve.field-0 _ c.in-Some-Solve.ensures.some) c.solve.ensures.solves
+pub solve-requires : goal.solve-requires
+solve-requires g c = asks_budget _ c.nodes.result (rw c.nodes.ensures at c.in-Some.ensures.some)
+
+pub returns-in-Some-clause-answer : goal.returns-in-Some-clause-answer
+returns-in-Some-clause-answer g c = solved c.nodes.result (rw c.nodes.ensures at c.in-Some.ensures.some) c.solve.ensures.solves

@@ -4,5 +4,5 @@ use Rattle.qm_top.proofs.top.run.Goals as goal
 
 pub returns-in-Ok-clause-complete : goal.returns-in-Ok-clause-complete
 returns-in-Ok-clause-complete g c = λ still.
-    complete_report c.one_decimal_a_word.ensures _ _ _ _ c.status.result (status_of c.answer-report.result) c.text.result.now (text_of c.answer-report.result)
-    c.answer-report.ensures.answer c.status.ensures c.text.ensures c.in-Ok.ensures.ok
+    complete_report c.one_decimal_a_word.ensures _ _ _ _ c.status.result (status_of c.answer-report.result) (text_of c.answer-report.result)
+    c.answer-report.ensures.answer c.status.ensures c.in-Ok.ensures.ok
