@@ -1,7 +1,12 @@
 pub mod Lines
+pub mod Pieces
+pub mod Spelling
 pub mod Styles
 pub mod TreeLines
 pub mod CertificateLines
+pub mod Nodes
+pub mod Dues
+pub mod Forms
 pub mod WellFormed
 pub mod Passes
 pub mod LineSteps
