@@ -12,6 +12,7 @@
 #![tactic(auto)]
 
 mod answer;
+mod certificates;
 mod forms;
 mod fractions;
 mod lines;

@@ -1,6 +1,7 @@
-pub mod ToldEndings
 mod Bounds
 mod CertificateTexts
+mod Cuts
+mod Decoded
 mod DifferentTexts
 mod EmptyTold
 mod LineSplits
@@ -9,7 +10,9 @@ mod LowestValues
 mod NumberWords
 mod Pieces
 mod PolicyTold
+mod Quotients
 mod RefuteTold
 mod RowWords
+pub mod ToldEndings
 mod TreeShapes
 mod TreeTexts

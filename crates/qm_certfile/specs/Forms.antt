@@ -12,9 +12,11 @@ use Rattle.qm_model.specs.declared.game.Problem.{Problem}
 use Rattle.qm_model.specs.Plays.{is_universal, whole_vars}
 use Rattle.qm_model.specs.Points.{continuous_vars}
 use Rattle.qm_trees.specs.declared.rule.Rule.{Rule}
-use Rattle.qm_trees.specs.declared.rule.Rule.TheVariants as rule
+use Rattle.qm_trees.specs.declared.rule.Rule.TheVariants as broken
 use Rattle.qm_trees.specs.Picks.{universal_count}
 use Rattle.qm_trees.specs.Verdicts.{Verdict, Fine, Broken, ◌then◌}
+use Rattle.qm_certfile.specs.declared.fault.Misread.{Misread}
+use Rattle.qm_certfile.specs.declared.fault.Misread.TheVariants as rule
 use Rattle.qm_certfile.specs.Lines.{Word, Line}
 use Rattle.qm_certfile.specs.Styles.{Style}
 use Rattle.qm_certfile.specs.Pieces.{lines_of, words_of}
@@ -136,6 +138,11 @@ said_at style P (Ranges n below) words = said_as Part (said_behind (codes "range
 
 -- ---- texts
 
+-- the rule of a certificate's lines that is broken so
+abbrev pub rule_of : Misread → Rule
+rule_of rule.Text = broken.Text
+rule_of rule.Number = broken.Number
+
 abbrev pub is_nothing : List ℕ → Bool
 is_nothing [] = true
 is_nothing (byte ∷ bytes) = false
@@ -143,14 +150,14 @@ is_nothing (byte ∷ bytes) = false
 -- The lines of a text where this is due, from its first one on. The last piece of a text has no LF, so a line that is due
 -- there is missing or cut; and where nothing is due, the text ends.
 abbrev pub form_of : Style → Problem → List Due → List (List ℕ) → Verdict
-form_of style P dues [] = Broken rule.Text 0
-form_of style P [] (rest ∷ []) = if is_nothing rest then Fine 0 else Broken rule.Text 0
-form_of style P (d ∷ dues) (rest ∷ []) = Broken rule.Text 0
-form_of style P [] (line ∷ next ∷ lines) = Broken rule.Text 0
+form_of style P dues [] = Broken broken.Text 0
+form_of style P [] (rest ∷ []) = if is_nothing rest then Fine 0 else Broken broken.Text 0
+form_of style P (d ∷ dues) (rest ∷ []) = Broken broken.Text 0
+form_of style P [] (line ∷ next ∷ lines) = Broken broken.Text 0
 form_of style P (d ∷ dues) (line ∷ next ∷ lines) =
     elim (said_at style P d (words_of line)) [
       Ok node ↦ Fine 1 then form_of style P (after style d node ++ dues) (next ∷ lines)
-    | Err r ↦ Broken r 0 ]
+    | Err r ↦ Broken (rule_of r) 0 ]
 
 -- the first line of a certificate's text that isn't in form, counted from 0
 unfoldable pub certificate_form : Style → Problem → List ℕ → Verdict

@@ -10,4 +10,5 @@ pub mod Forms
 pub mod WellFormed
 pub mod Passes
 pub mod LineSteps
+pub mod WordSteps
 pub mod Numbers

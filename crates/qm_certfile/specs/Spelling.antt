@@ -1,32 +1,30 @@
 -- The words of numbers and entries. A word is rightly spelt before its number is one of a type: `Text` says that it isn't
 -- spelt so, `Number` that its number is outside the type.
 use Rattle.std.specs.Prelude.{ℕ, zero, suc, ◌-◌, ◌^◌, ℤ, pos, negsuc, Bool, true, false, ◌&&◌, ◌||◌, ◌==◌, nat_le, nat_lt, int_lt, List, [], ◌∷◌, length, Option, None, Some, Result, Ok, Err, slice_index, unsigned_abs, if◌then◌else◌}
-use Rattle.std.specs.List.{slice_split}
 use Rattle.std.specs.Option.{option_map}
 use Rattle.std.specs.Str.{bytes_eq}
-use Rattle.memchr.specs.Find.{is_byte}
 use Rattle.qm_math.specs.Fraction.{Fraction}
 use Rattle.qm_frac.specs.Gcd.{gcd_of}
 use Rattle.qm_model.specs.declared.row_id.RowId.{RowId}
 use Rattle.qm_model.specs.declared.row_id.RowId.TheVariants as id
 use Rattle.qm_text.specs.Digits.{is_plain_numeral, numeral_value}
 use Rattle.qm_trees.specs.declared.combination.Entry.{Entry}
-use Rattle.qm_trees.specs.declared.rule.Rule.{Rule}
-use Rattle.qm_trees.specs.declared.rule.Rule.TheVariants as rule
 use Rattle.qm_trees.specs.Entries.{Combination}
+use Rattle.qm_certfile.specs.declared.fault.Misread.{Misread}
+use Rattle.qm_certfile.specs.declared.fault.Misread.TheVariants as rule
 use Rattle.qm_certfile.specs.Lines.{Word}
 
 -- what words say, or the first of the rules that they break: `Text` before `Number`
 abbrev pub Said : Type 0 → Type 0
-Said A = Result A Rule
+Said A = Result A Misread
 
 -- ---- several words: one that is misspelt comes before one that is outside its type
 
-abbrev pub is_text : Rule → Bool
+abbrev pub is_text : Misread → Bool
 is_text rule.Text = true
-is_text _ = false
+is_text rule.Number = false
 
-abbrev pub first_of : Rule → Rule → Rule
+abbrev pub first_of : Misread → Misread → Misread
 first_of r s = if is_text s then s else r
 
 abbrev pub with_both : {A B C : Type 0} → (A → B → C) → Said A → Said B → Said C
@@ -48,6 +46,18 @@ abbrev pub one : {A : Type 0} → (Word → Said A) → List Word → Said A
 one f [] = Err rule.Text
 one f (word ∷ []) = f word
 one f (word ∷ next ∷ words) = Err rule.Text
+
+-- ---- parts of words
+
+-- with one byte more in front
+abbrev pub with_front : ℕ → Option (Word × Word) → Option (Word × Word)
+with_front byte None = None
+with_front byte (Some parts) = Some (byte ∷ parts.0, parts.1)
+
+-- what stands before the first such byte and behind it
+abbrev pub cut_at : ℕ → Word → Option (Word × Word)
+cut_at mark [] = None
+cut_at mark (byte ∷ word) = if byte == mark then Some ([], word) else with_front byte (cut_at mark word)
 
 -- ---- numbers, of any size
 
@@ -77,15 +87,12 @@ quotient_of None den = None
 quotient_of (Some num) None = None
 quotient_of (Some num) (Some den) = let a : Fraction = record { num = num; den = den } in if is_broken a then Some a else None
 
-abbrev pub fraction_in : List Word → Option Fraction
-fraction_in [] = None
-fraction_in (above ∷ []) = option_map (λ n. record { num = n; den = 1 }) (whole_of above)
-fraction_in (above ∷ below ∷ []) = quotient_of (whole_of above) (natural_of below)
-fraction_in (above ∷ below ∷ next ∷ pieces) = None
+abbrev pub over_one : ℤ → Fraction
+over_one n = record { num = n; den = 1 }
 
 -- a whole number, or `A/B`
 abbrev pub fraction_of : Word → Option Fraction
-fraction_of word = fraction_in (slice_split (is_byte 47) word)
+fraction_of word = elim (cut_at 47 word) [ None ↦ option_map over_one (whole_of word) | Some parts ↦ quotient_of (whole_of parts.0) (natural_of parts.1) ]
 
 -- ---- numbers of a type
 
@@ -155,23 +162,13 @@ multiplier_word word = if slice_index word 0 == 45 || slice_index word 0 == 48 t
 abbrev pub entry_of : RowId → Fraction → Entry
 entry_of row by = record { row = row; by = by }
 
-abbrev pub entry_in : List Word → Said Entry
-entry_in [] = Err rule.Text
-entry_in (row ∷ []) = Err rule.Text
-entry_in (row ∷ by ∷ []) = with_both entry_of (of_type as_row (written_row row)) (multiplier_word by)
-entry_in (row ∷ by ∷ next ∷ pieces) = Err rule.Text
-
 -- `ROW=MULTIPLIER`
 abbrev pub entry_said : Word → Said Entry
-entry_said word = entry_in (slice_split (is_byte 61) word)
+entry_said word = elim (cut_at 61 word) [ None ↦ Err rule.Text | Some parts ↦ with_both entry_of (of_type as_row (written_row parts.0)) (multiplier_word parts.1) ]
 
 -- the row of an entry, as it is written
-abbrev pub first_written : List Word → Option Written
-first_written [] = None
-first_written (row ∷ pieces) = written_row row
-
 abbrev pub entry_row : Word → Option Written
-entry_row word = first_written (slice_split (is_byte 61) word)
+entry_row word = elim (cut_at 61 word) [ None ↦ None | Some parts ↦ written_row parts.0 ]
 
 abbrev pub is_before : Option Written → Option Written → Bool
 is_before None s = false
