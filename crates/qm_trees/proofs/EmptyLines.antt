@@ -1,5 +1,5 @@
 -- An empty tree's lines are fine exactly where the tree is right and no operation leaves.
-use Rattle.std.proofs.Common.{◌≡◌, ℕ, ◌+◌, ◌<◌, Bool, true, false, List, [], ◌∷◌, get_or, All, refl, sym, ◌∙◌, subst, true≢false, Ok, inl, inr, ◌⊎◌}
+use Rattle.std.proofs.Common.{◌≡◌, ℕ, ◌+◌, ◌<◌, Bool, true, false, List, [], ◌∷◌, get_or, All, not, refl, sym, ap, ◌∙◌, subst, true≢false, Ok, inl, inr, ◌⊎◌}
 use Rattle.std.specs.Prelude.{◌↔◌, ◌&&◌, ◌==◌, IsOk, slice_set, if◌then◌else◌}
 use Rattle.std.specs.Bool.{Decides}
 use Rattle.std.proofs.lemmas.Bool.{and_from, and_parts, both_ways}
@@ -21,7 +21,7 @@ use Rattle.qm_trees.specs.declared.rule.Rule.TheVariants as rule
 use Rattle.qm_trees.specs.declared.empty.Empty.{Empty, out-Empty}
 use Rattle.qm_trees.specs.declared.empty.Empty.TheOpen as node
 use Rattle.qm_trees.specs.declared.empty.EmptyPart.{EmptyPart}
-use Rattle.qm_trees.specs.Entries.{Combination, IsPositive, all_positive, Weighted, weighted_rows}
+use Rattle.qm_trees.specs.Entries.{Combination, IsPositive, are_well_formed, Weighted, weighted_rows}
 use Rattle.qm_trees.specs.Evaluation.{right_side, least_combined, value_of}
 use Rattle.qm_trees.specs.Closing.{is_empty_range}
 use Rattle.qm_trees.specs.Verdicts.{Verdict, Broken, line}
@@ -31,11 +31,11 @@ use Rattle.qm_trees.specs.Passing.{IsFine}
 use Rattle.qm_trees.specs.EmptyJudgement.{Layer, range_of, below_of, all_uncertain, some_universal_empty, is_void, contradicts, closes_empty, judge_close, judge_end, judge_split, judge_empty}
 use Rattle.qm_trees.specs.EmptyRight.{HasEmptyUniversal, IsRightClose, IsRightEnd, IsRightSplit, IsRightEmpty, IsCloseInRange, IsEndInRange, IsSplitInRange, IsEmptyInRange}
 use Rattle.qm_trees.proofs.Lines.{never, fine_line, line_fine, tested_parts, tested_from}
-use Rattle.qm_trees.proofs.Moves.{fine_else, fine_then, else_fine, then_fine}
+use Rattle.qm_trees.proofs.Moves.{fine_then, then_fine}
 use Rattle.qm_trees.proofs.CoverLines.{fine_cover, cover_fine}
 use Rattle.qm_trees.proofs.CombinationValues.{Says, says}
 use Rattle.qm_trees.proofs.CombinationCloses.{IsAnswer, ok_bool, answer_exact}
-use Rattle.qm_trees.proofs.Multipliers.{weighted_dens, all_positive-says}
+use Rattle.qm_trees.proofs.Multipliers.{weighted_dens, entries_positive, well_formed_says}
 
 -- ---- empty ranges
 
@@ -84,24 +84,28 @@ module _ (P : Problem) where
       let ws = weighted_rows P [] combo.entries in
       answer_exact (Contradict P bx ws) (contradicts P bx combo) (λ b e. contradict_answer P bx ws (weighted_dens P [] combo.entries positive) (some_universal_empty (whole_vars P) bx) refl b e)
 
+  left_out : (objective : Bool) → not objective ≡ true → objective ≡ false
+  left_out true e = cc
+  left_out false e = refl
+
   right_close : (bx : List Range) (combo : Combination) → IsFine (judge_close P bx combo) → IsRightClose P bx combo × IsCloseInRange P bx combo
   right_close bx combo fine =
       let es = combo.entries in
-      let test = fine_else combo.objective rule.Text 0 (line rule.Close (closes_empty P bx combo)) fine in
-      let parts = tested_parts (all_positive es && all_uncertain P es) (contradicts P bx combo) (fine_line rule.Close (closes_empty P bx combo) test.1) in
-      let entries = and_parts (all_positive es) (all_uncertain P es) parts.0 in
-      let positive = (all_positive-says es).0 entries.0 in
-      let shown = (contradicts_exact bx combo positive).0 parts.1 in
-      (record { without_objective = test.0; positive = positive; named = entries.1; closes = shown.0 }, shown.1)
+      let test = fine_then (not combo.objective && are_well_formed es) rule.Text 0 (line rule.Close (closes_empty P bx combo)) fine in
+      let form = and_parts (not combo.objective) (are_well_formed es) test.0 in
+      let well_formed = (well_formed_says es).0 form.1 in
+      let parts = tested_parts (all_uncertain P es) (contradicts P bx combo) (fine_line rule.Close (closes_empty P bx combo) test.1) in
+      let shown = (contradicts_exact bx combo (entries_positive es well_formed.0)).0 parts.1 in
+      (record { without_objective = left_out combo.objective form.0; well_formed = well_formed; named = parts.0; closes = shown.0 }, shown.1)
 
   close_fine : (bx : List Range) (combo : Combination) → IsRightClose P bx combo → IsCloseInRange P bx combo → IsFine (judge_close P bx combo)
   close_fine bx combo right range =
       let es = combo.entries in
-      else_fine combo.objective rule.Text 0 (line rule.Close (closes_empty P bx combo)) right.without_objective
+      then_fine (not combo.objective && are_well_formed es) rule.Text 0 (line rule.Close (closes_empty P bx combo))
+      (and_from (not combo.objective) (are_well_formed es) (ap not right.without_objective) ((well_formed_says es).1 right.well_formed))
       (line_fine rule.Close (closes_empty P bx combo)
-      (tested_from (all_positive es && all_uncertain P es) (contradicts P bx combo)
-      (and_from (all_positive es) (all_uncertain P es) ((all_positive-says es).1 right.positive) right.named)
-      ((contradicts_exact bx combo right.positive).1 (right.closes, range))))
+      (tested_from (all_uncertain P es) (contradicts P bx combo) right.named
+      ((contradicts_exact bx combo (entries_positive es right.well_formed.0)).1 (right.closes, range))))
 
   right_end : (bx : List Range) (layer : Layer) → IsFine (judge_end P bx layer) → IsRightEnd P bx layer × IsEndInRange P bx layer
   right_end bx (node.Close combo) fine = right_close bx combo fine

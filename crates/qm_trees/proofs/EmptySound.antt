@@ -48,7 +48,7 @@ use Rattle.qm_trees.specs.EmptyJudgement.{Layer, range_of, below_of, all_uncerta
 use Rattle.qm_trees.specs.EmptyRight.{HasEmptyUniversal, IsRightClose, IsRightEnd, IsRightSplit, IsRightEmpty}
 use Rattle.qm_trees.proofs.CombinationSound.{combined_coefficient_den, combined_right, combined_right_den, combined_row_at, combined_row_at_den, form_of-difference, form_of-nothing, form_of_den, least_combined_den, least_end_multiple, rows_at_most}
 use Rattle.qm_trees.proofs.FoundParts.{Finds, cover_finds}
-use Rattle.qm_trees.proofs.Multipliers.{weighted_dens, weighted_not_negative}
+use Rattle.qm_trees.proofs.Multipliers.{entries_positive, weighted_dens, weighted_not_negative}
 use Rattle.qm_trees.proofs.PickedPlays.{between_itself, fit_at, fit_next, fit_set, fit_skip, next_gives}
 use Rattle.qm_trees.proofs.RowsOver.{HoldsAt-over}
 
@@ -231,7 +231,8 @@ module _ (P : Problem) (sound : IsSound P) (us : List ℤ) (rows : All (HoldsInP
 
         at_most : IsAtMost (least_combined P false ws bx) (right_side P false ws)
         at_most =
-            let dens = weighted_dens P [] combo.entries right.positive in
+            let positive = entries_positive combo.entries right.well_formed.0 in
+            let dens = weighted_dens P [] combo.entries positive in
             let around = map single values in
             let inside = alone_in_box values in
             let left = form_of k 0 points in
@@ -250,7 +251,7 @@ module _ (P : Problem) (sound : IsSound P) (us : List ℤ) (rows : All (HoldsInP
             )
             (form_of-difference (combined_row_at ws) (λ n. whole (pos 0)) 0 points, (same_sym less (whole (pos 0)) (form_of-nothing 0 points), tt)) (
               least_fits k (whole_vars P) 0 bx us fits names,
-              (rows_at_most around points ws inside dens (weighted_not_negative P [] combo.entries right.positive) (uncertain_hold P (HoldsAt points) held combo.entries right.named), tt),
+              (rows_at_most around points ws inside dens (weighted_not_negative P [] combo.entries positive) (uncertain_hold P (HoldsAt points) held combo.entries right.named), tt),
             )
             refl
 

@@ -18,14 +18,14 @@ use Rattle.qm_model.specs.Ranges.{single}
 use Rattle.qm_trees.specs.RefuteJudgement.{Head, Layer, range_of, below_of}
 use Rattle.qm_trees.specs.RefuteRight.{IsRightClose, IsRightEnd, IsRightMove, IsRightRefutation, IsCloseInRange, IsEndInRange, IsMoveInRange, IsRefutationInRange}
 use Rattle.qm_trees.proofs.CombinationCloses.{closes_harder}
-use Rattle.qm_trees.proofs.Multipliers.{weighted_dens}
+use Rattle.qm_trees.proofs.Multipliers.{entries_positive, weighted_dens}
 
 module _ (P : Problem) (cuts : List Row) (heads : List Head) (G H : Goal) (scale : pos 1 ≤ℤ P.scale) (proper : IsProper G) (proper' : IsProper H) (order : IsNoHarder G H) where
   close_harder : (bx : List Range) (combo : Combination) → IsRightClose P cuts G bx combo → IsRightClose P cuts H bx combo
   close_harder bx combo right = (
     right.0,
     right.1,
-    closes_harder P combo.objective (weighted_rows P cuts combo.entries) bx G H (weighted_dens P cuts combo.entries right.0) scale proper proper' order right.2,
+    closes_harder P combo.objective (weighted_rows P cuts combo.entries) bx G H (weighted_dens P cuts combo.entries (entries_positive combo.entries right.0.0)) scale proper proper' order right.2,
   )
 
   end_harder : (bx : List Range) (layer : Layer) → IsRightEnd P cuts G bx layer → IsRightEnd P cuts H bx layer

@@ -11,6 +11,10 @@ use Rattle.qm_trees.specs.Passing.{IsFine}
 pub never : Decides false ⊥
 never = (λ e. absurd (true≢false (sym e)), λ h. absurd h)
 
+-- the test that is true of what always holds
+pub always : Decides true (Unit {0})
+always = (λ e. tt, λ h. refl)
+
 -- both of two verdicts
 pub fine_parts : (a b : Verdict) → IsFine (a then b) → IsFine a × IsFine b
 fine_parts (Fine m) (Fine n) h = (tt, tt)

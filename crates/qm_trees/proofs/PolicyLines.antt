@@ -1,6 +1,7 @@
 -- A policy's lines are fine exactly where the policy is right and no operation leaves.
 use Rattle.std.proofs.Common.{ℕ, ◌+◌, ◌<◌, true, List, [], ◌∷◌, length, get_or, ap, pos, ◌≤ℤ◌, Ok}
-use Rattle.std.specs.Prelude.{◌==◌, slice_set, if◌then◌else◌}
+use Rattle.std.specs.Prelude.{◌&&◌, ◌==◌, slice_set, if◌then◌else◌}
+use Rattle.std.proofs.lemmas.Bool.{and_from, and_parts}
 use Rattle.qm_math.specs.Fraction.{Fraction}
 use Rattle.qm_model.specs.declared.range.Range.{Range}
 use Rattle.qm_model.specs.declared.variable.Var.{Var}
@@ -15,6 +16,7 @@ use Rattle.qm_trees.specs.declared.policy.PolicyPart.{PolicyPart}
 use Rattle.qm_trees.specs.Verdicts.{Verdict, Fine, line, ◌then◌}
 use Rattle.qm_model.specs.Ranges.{range_at, single, is_in}
 use Rattle.qm_trees.specs.Ranges.{judge_parts}
+use Rattle.qm_trees.specs.Fractions.{are_fracs}
 use Rattle.qm_trees.specs.Leaves.{leaf_passes}
 use Rattle.qm_trees.specs.EmptyJudgement.{judge_empty}
 use Rattle.qm_trees.specs.PolicyJudgement.{Layer, BelowLayer, range_of, below_of, judge_below, judge_end, judge_move, judge_policy}
@@ -25,22 +27,28 @@ use Rattle.qm_trees.proofs.Moves.{fine_else, fine_then, else_fine, then_fine, be
 use Rattle.qm_trees.proofs.CoverLines.{fine_cover, cover_fine}
 use Rattle.qm_trees.proofs.EmptyLines.{right_of_fine as empty_right_of_fine, fine_of_right as empty_fine_of_right}
 use Rattle.qm_trees.proofs.LeafLines.{leaf_of_passes, leaf_passes_of, AreInBounds-length}
+use Rattle.qm_trees.proofs.Multipliers.{fracs_say}
 
 -- ---- leaves
 
 module _ (P : Problem) (v : Fraction) (bx : List Range) (scale : pos 1 ≤ℤ P.scale) (positive : 0 < v.den) where
   right_end : (layer : Layer) → IsFine (judge_end P v bx layer) → IsRightEnd P v bx layer × IsEndInRange P v bx layer
   right_end (node.Leaf point) fine =
-      let test = fine_then (length point == length (continuous_vars P)) rule.Text 0 (line rule.Leaf (leaf_passes P v bx point)) fine in
-      leaf_of_passes P v bx point scale positive (fine_line rule.Leaf (leaf_passes P v bx point) test.1)
+      let form = (length point == length (continuous_vars P)) && are_fracs point in
+      let test = fine_then form rule.Text 0 (line rule.Leaf (leaf_passes P v bx point)) fine in
+      let fracs = (fracs_say point).0 (and_parts (length point == length (continuous_vars P)) (are_fracs point) test.0).1 in
+      let leaf = leaf_of_passes P v bx point scale positive (fine_line rule.Leaf (leaf_passes P v bx point) test.1) in
+      ((fracs, leaf.0), leaf.1)
   right_end (node.Choose value below) fine = absurd fine
   right_end (node.Answer parts) fine = absurd fine
 
   end_fine : (layer : Layer) → IsRightEnd P v bx layer → IsEndInRange P v bx layer → IsFine (judge_end P v bx layer)
   end_fine (node.Leaf point) right range =
-      then_fine (length point == length (continuous_vars P)) rule.Text 0 (line rule.Leaf (leaf_passes P v bx point))
-      (same_count (length point) (length (continuous_vars P)) (AreInBounds-length (continuous_vars P) point right.bounds))
-      (line_fine rule.Leaf (leaf_passes P v bx point) (leaf_passes_of P v bx point scale positive right range))
+      let form = (length point == length (continuous_vars P)) && are_fracs point in
+      let count = same_count (length point) (length (continuous_vars P)) (AreInBounds-length (continuous_vars P) point right.1.bounds) in
+      then_fine form rule.Text 0 (line rule.Leaf (leaf_passes P v bx point))
+      (and_from (length point == length (continuous_vars P)) (are_fracs point) count ((fracs_say point).1 right.0))
+      (line_fine rule.Leaf (leaf_passes P v bx point) (leaf_passes_of P v bx point scale positive right.1 range))
   end_fine (node.Choose value below) right range = absurd right
   end_fine (node.Answer parts) right range = absurd right
 

@@ -116,7 +116,8 @@ module _ (P : Problem) (sound : IsSound P) (v : Fraction) (depth : ℕ) (prefix 
       rw same (in_at place.done prefix i place.values below)
 
   end_reaches : (layer : Layer) → IsRightEnd P v bx layer → ReachesAtEnd P v prefix layer
-  end_reaches (node.Leaf point) leaf =
+  end_reaches (node.Leaf point) right =
+      let leaf = right.1 in
       let count = AreInBounds-length (continuous_vars P) point leaf.bounds in
       let proper = AreInBounds-dens (continuous_vars P) point leaf.bounds in (
         leaf_meets P sound prefix bx point length-prefix inside count proper v leaf,

@@ -15,20 +15,20 @@ use Rattle.qm_trees.specs.declared.rule.Rule.TheVariants as rule
 use Rattle.qm_trees.specs.declared.refutation.Refute.{Refute, out-Refute}
 use Rattle.qm_trees.specs.declared.refutation.Refute.TheOpen as node
 use Rattle.qm_trees.specs.declared.refutation.RefutePart.{RefutePart}
-use Rattle.qm_trees.specs.Entries.{Combination, all_positive, weighted_rows}
+use Rattle.qm_trees.specs.Entries.{Combination, are_well_formed, weighted_rows}
 use Rattle.qm_trees.specs.Closing.{closing}
 use Rattle.qm_trees.specs.Verdicts.{Verdict, line, ◌then◌}
 use Rattle.qm_model.specs.Ranges.{range_at, single, is_in}
 use Rattle.qm_trees.specs.Ranges.{counts_right, judge_each}
 use Rattle.qm_trees.specs.Picks.{universal_count, fit, picked, meet_on_box}
 use Rattle.qm_trees.specs.Passing.{IsFine}
-use Rattle.qm_trees.specs.RefuteJudgement.{Head, Layer, range_of, below_of, all_named, closes_here, judge_end, counts_over, judge_move, judge_refute}
+use Rattle.qm_trees.specs.RefuteJudgement.{Head, Layer, range_of, below_of, all_named, closes_here, judge_close, judge_end, counts_over, judge_move, judge_refute}
 use Rattle.qm_trees.specs.RefuteRight.{IsRightClose, IsRightEnd, IsRightMove, IsRightRefutation, IsCloseInRange, IsEndInRange, IsMoveInRange, IsRefutationInRange}
 use Rattle.qm_trees.proofs.Lines.{fine_parts, fine_both, fine_line, line_fine, ok_is, tested_parts, tested_from}
 use Rattle.qm_trees.proofs.Moves.{fine_then, then_fine, same_count}
 use Rattle.qm_trees.proofs.CoverLines.{fine_cover, cover_fine}
 use Rattle.qm_trees.proofs.CombinationCloses.{closing_exact}
-use Rattle.qm_trees.proofs.Multipliers.{weighted_dens, all_positive-says, all_named-says}
+use Rattle.qm_trees.proofs.Multipliers.{weighted_dens, entries_positive, well_formed_says, all_named-says}
 use Rattle.qm_trees.proofs.PickLines.{fit_length, pick_says}
 
 -- ---- one part alone for a universal variable
@@ -46,31 +46,32 @@ of_alone x n h = by (is_universal x) refl
 -- ---- closing
 
 module _ (P : Problem) (cuts : List Row) (G : Goal) (scale : pos 1 ≤ℤ P.scale) (proper : IsProper G) where
-  right_close : (bx : List Range) (combo : Combination) → closes_here P cuts bx G combo ≡ Ok true → IsRightClose P cuts G bx combo × IsCloseInRange P cuts G bx combo
-  right_close bx combo e =
+  right_close : (bx : List Range) (combo : Combination) → IsFine (judge_close P cuts G bx combo) → IsRightClose P cuts G bx combo × IsCloseInRange P cuts G bx combo
+  right_close bx combo fine =
       let es = combo.entries in
       let ws = weighted_rows P cuts es in
-      let test = tested_parts (all_positive es && all_named P cuts es) (closing P combo.objective ws bx G) e in
-      let entries = and_parts (all_positive es) (all_named P cuts es) test.0 in
-      let positive = (all_positive-says es).0 entries.0 in
-      let closes = (closing_exact P combo.objective ws bx G (weighted_dens P cuts es positive) scale proper).0 test.1 in
-      ((positive, (all_named-says P cuts es).0 entries.1, closes.0), closes.1)
+      let form = fine_then (are_well_formed es) rule.Text 0 (line rule.Close (closes_here P cuts bx G combo)) fine in
+      let well_formed = (well_formed_says es).0 form.0 in
+      let test = tested_parts (all_named P cuts es) (closing P combo.objective ws bx G) (fine_line rule.Close (closes_here P cuts bx G combo) form.1) in
+      let closes = (closing_exact P combo.objective ws bx G (weighted_dens P cuts es (entries_positive es well_formed.0)) scale proper).0 test.1 in
+      ((well_formed, (all_named-says P cuts es).0 test.0, closes.0), closes.1)
 
-  close_right : (bx : List Range) (combo : Combination) → IsRightClose P cuts G bx combo → IsCloseInRange P cuts G bx combo → closes_here P cuts bx G combo ≡ Ok true
-  close_right bx combo right range =
+  close_fine : (bx : List Range) (combo : Combination) → IsRightClose P cuts G bx combo → IsCloseInRange P cuts G bx combo → IsFine (judge_close P cuts G bx combo)
+  close_fine bx combo right range =
       let es = combo.entries in
       let ws = weighted_rows P cuts es in
-      tested_from (all_positive es && all_named P cuts es) (closing P combo.objective ws bx G)
-      (and_from (all_positive es) (all_named P cuts es) ((all_positive-says es).1 right.0) ((all_named-says P cuts es).1 right.1))
-      ((closing_exact P combo.objective ws bx G (weighted_dens P cuts es right.0) scale proper).1 (right.2, range))
+      then_fine (are_well_formed es) rule.Text 0 (line rule.Close (closes_here P cuts bx G combo)) ((well_formed_says es).1 right.0)
+      (line_fine rule.Close (closes_here P cuts bx G combo)
+      (tested_from (all_named P cuts es) (closing P combo.objective ws bx G) ((all_named-says P cuts es).1 right.1)
+      ((closing_exact P combo.objective ws bx G (weighted_dens P cuts es (entries_positive es right.0.0)) scale proper).1 (right.2, range))))
 
   right_end : (bx : List Range) (layer : Layer) → IsFine (judge_end P cuts G bx layer) → IsRightEnd P cuts G bx layer × IsEndInRange P cuts G bx layer
-  right_end bx (node.Close combo) fine = right_close bx combo (fine_line rule.Close (closes_here P cuts bx G combo) fine)
+  right_end bx (node.Close combo) fine = right_close bx combo fine
   right_end bx (node.Over parts) fine = absurd fine
   right_end bx (node.Pick value completion below) fine = absurd fine
 
   end_fine : (bx : List Range) (layer : Layer) → IsRightEnd P cuts G bx layer → IsEndInRange P cuts G bx layer → IsFine (judge_end P cuts G bx layer)
-  end_fine bx (node.Close combo) right range = line_fine rule.Close (closes_here P cuts bx G combo) (close_right bx combo right range)
+  end_fine bx (node.Close combo) right range = close_fine bx combo right range
   end_fine bx (node.Over parts) right range = absurd right
   end_fine bx (node.Pick value completion below) right range = absurd right
 
@@ -80,7 +81,7 @@ module _ (P : Problem) (cuts : List Row) (G : Goal) (scale : pos 1 ≤ℤ P.scal
     right_move : ((bx : List Range) (tree : Refute) → IsFine (judge bx tree) → IsRight bx tree × IsInRange bx tree)
         → (bx : List Range) (layer : Layer) → IsFine (judge_move P cuts G x later depth judge bx layer)
         → IsRightMove P cuts G x later depth IsRight bx layer × IsMoveInRange P cuts G depth IsInRange bx layer
-    right_move below bx (node.Close combo) fine = right_close bx combo (fine_line rule.Close (closes_here P cuts bx G combo) fine)
+    right_move below bx (node.Close combo) fine = right_close bx combo fine
     right_move below bx (node.Over parts) fine =
         let covered = range_at bx depth in
         let count = length parts in
@@ -116,7 +117,7 @@ module _ (P : Problem) (cuts : List Row) (G : Goal) (scale : pos 1 ≤ℤ P.scal
     move_fine : ((bx : List Range) (tree : Refute) → IsRight bx tree → IsInRange bx tree → IsFine (judge bx tree))
         → (bx : List Range) (layer : Layer) → IsRightMove P cuts G x later depth IsRight bx layer → IsMoveInRange P cuts G depth IsInRange bx layer
         → IsFine (judge_move P cuts G x later depth judge bx layer)
-    move_fine below bx (node.Close combo) right range = line_fine rule.Close (closes_here P cuts bx G combo) (close_right bx combo right range)
+    move_fine below bx (node.Close combo) right range = close_fine bx combo right range
     move_fine below bx (node.Over parts) right range =
         let covered = range_at bx depth in
         let count = length parts in

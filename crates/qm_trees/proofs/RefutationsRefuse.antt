@@ -26,6 +26,7 @@ use Rattle.qm_trees.specs.Picks.{Fit, fixed, picked}
 use Rattle.qm_model.specs.Ranges.{range_at, single}
 use Rattle.qm_trees.specs.Reaching.{HasValue}
 use Rattle.qm_trees.specs.RefuteJudgement.{Head, Layer, range_of, below_of}
+use Rattle.qm_trees.proofs.Multipliers.{entries_positive}
 use Rattle.qm_trees.specs.RefuteRight.{IsRightClose, IsRightEnd, IsRightMove, IsRightPick, IsRightRefutation}
 use Rattle.qm_trees.proofs.ClosedGoals.{closed_out_of_reach}
 use Rattle.qm_trees.proofs.PickedPlays.{between_itself, fit_behind, fit_fixed, fit_within, next_fits, rows_hold}
@@ -153,7 +154,7 @@ module _ (P : Problem) (cuts : List Row) (G : Goal) (sound : IsSound P) (proper 
       let behind_all : drop P.wholes bx ≡ whole_box_of (continuous_vars P) = subst (λ n. drop n bx ≡ whole_box_of (continuous_vars P)) (length-complete P full sound complete) box.others in
       closed_out_of_reach P cuts combo bx G full y sound proper complete box.inside behind_all all.wins.meets
       (legal_meets_uncertainty P full y sound complete all.legal) (hold full y (BeginWithin-all (whole_vars P) full within) complete all.legal all.wins.meets) all.wins.reaches
-      right.0 right.2
+      (entries_positive combo.entries right.0.0) right.2
 
   end_refuses : (depth : ℕ) (prefix : List ℤ) (bx : List Range) (layer : Layer) → Place P [] depth prefix bx → IsRightEnd P cuts G bx layer → IsLegal P prefix → WinsFrom P G [] prefix → ⊥
   end_refuses depth prefix bx (node.Close combo) place right legal wins = close_refuses [] depth prefix bx combo place right legal wins

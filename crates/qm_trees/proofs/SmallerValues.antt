@@ -17,11 +17,14 @@ use Rattle.qm_trees.specs.Leaves.{add_terms, value_at, least_objective}
 
 module _ (P : Problem) (v w : Fraction) (positive : 0 < v.den) (less : IsAtMost w v) where
   end_at_less : (bx : List Range) (layer : Layer) → IsRightEnd P v bx layer → IsRightEnd P w bx layer
-  end_at_less bx (node.Leaf point) right = record {
-    bounds = right.bounds;
-    rows = right.rows;
-    reaches = at_most_trans w v (least_objective P bx point) positive less right.reaches;
-  }
+  end_at_less bx (node.Leaf point) right = (
+    right.0,
+    record {
+      bounds = right.1.bounds;
+      rows = right.1.rows;
+      reaches = at_most_trans w v (least_objective P bx point) positive less right.1.reaches;
+    },
+  )
   end_at_less bx (node.Choose value below) right = absurd right
   end_at_less bx (node.Answer parts) right = absurd right
 

@@ -1,5 +1,5 @@
 -- A tree that shows that no universal play has its values in a box, judged in the order of its text.
-use Rattle.std.specs.Prelude.{ℕ, ◌+◌, Bool, true, false, ◌&&◌, ◌||◌, ◌==◌, List, [], ◌∷◌, is_some, Ok, slice_set, if◌then◌else◌}
+use Rattle.std.specs.Prelude.{ℕ, ◌+◌, Bool, true, false, not, ◌&&◌, ◌||◌, ◌==◌, List, [], ◌∷◌, is_some, Ok, slice_set, if◌then◌else◌}
 use Rattle.std.specs.List.{list_all}
 use Rattle.qm_frac.specs.Checked.{Checked}
 use Rattle.qm_model.specs.declared.range.Range.{Range}
@@ -15,7 +15,7 @@ use Rattle.qm_trees.specs.declared.rule.Rule.TheVariants as rule
 use Rattle.qm_trees.specs.declared.empty.Empty.{Empty, out-Empty}
 use Rattle.qm_trees.specs.declared.empty.Empty.TheOpen as node
 use Rattle.qm_trees.specs.declared.empty.EmptyPart.{EmptyPart, out-EmptyPart}
-use Rattle.qm_trees.specs.Entries.{Combination, all_positive, row_named, weighted_rows}
+use Rattle.qm_trees.specs.Entries.{Combination, are_well_formed, row_named, weighted_rows}
 use Rattle.qm_trees.specs.Evaluation.{value_of, ◌>>=◌}
 use Rattle.qm_trees.specs.Closing.{is_empty_range}
 use Rattle.qm_trees.specs.Verdicts.{Verdict, Broken, line, ◌then◌}
@@ -57,12 +57,13 @@ abbrev pub contradicts : Problem → List Range → Combination → Checked Bool
 contradicts P bx combo =
     if some_universal_empty (whole_vars P) bx then Ok true else (value_of P false (weighted_rows P [] combo.entries) bx >>= λ v. Ok (is_void v))
 
--- multipliers are above 0, on uncertainty rows that are there, and then the combination contradicts the box
+-- the entries are on uncertainty rows that are there, and then the combination contradicts the box
 abbrev pub closes_empty : Problem → List Range → Combination → Checked Bool
-closes_empty P bx combo = if all_positive combo.entries && all_uncertain P combo.entries then contradicts P bx combo else Ok false
+closes_empty P bx combo = if all_uncertain P combo.entries then contradicts P bx combo else Ok false
 
+-- the objective isn't in, the entries are well formed, and then they close
 abbrev pub judge_close : Problem → List Range → Combination → Verdict
-judge_close P bx combo = if combo.objective then Broken rule.Text 0 else line rule.Close (closes_empty P bx combo)
+judge_close P bx combo = if not combo.objective && are_well_formed combo.entries then line rule.Close (closes_empty P bx combo) else Broken rule.Text 0
 
 abbrev pub judge_end : Problem → List Range → Layer → Verdict
 judge_end P bx (node.Close combo) = judge_close P bx combo

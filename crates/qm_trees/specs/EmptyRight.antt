@@ -9,7 +9,7 @@ use Rattle.qm_model.specs.Boxes.{Cover, IsEmptyRange}
 use Rattle.qm_model.specs.Plays.{is_universal, whole_vars}
 use Rattle.qm_trees.specs.declared.empty.Empty.{Empty, out-Empty}
 use Rattle.qm_trees.specs.declared.empty.Empty.TheOpen as node
-use Rattle.qm_trees.specs.Entries.{Combination, IsPositive, weighted_rows}
+use Rattle.qm_trees.specs.Entries.{AreWellFormed, Combination, weighted_rows}
 use Rattle.qm_trees.specs.Evaluation.{right_side, least_combined}
 use Rattle.qm_model.specs.Ranges.{range_at}
 use Rattle.qm_trees.specs.EmptyJudgement.{Layer, range_of, below_of, all_uncertain, contradicts}
@@ -23,7 +23,7 @@ HasEmptyUniversal (x ∷ xs) (r ∷ bx) = (IsTrue (is_universal x) × IsEmptyRan
 -- uncertainty rows alone, without the objective, that contradict the box; or a universal range is empty
 pub record IsRightClose (P : Problem) (bx : List Range) (combo : Combination) : Type 0 where
   pub without_objective : combo.objective ≡ false
-  pub positive : All IsPositive combo.entries
+  pub well_formed : AreWellFormed combo.entries
   pub named : IsTrue (all_uncertain P combo.entries)
   pub closes : HasEmptyUniversal (whole_vars P) bx ⊎ IsBelow (right_side P false (weighted_rows P [] combo.entries)) (least_combined P false (weighted_rows P [] combo.entries) bx)
 

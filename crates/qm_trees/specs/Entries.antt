@@ -1,13 +1,15 @@
 -- Combinations: multipliers on rows.
-use Rattle.std.specs.Prelude.{◌<◌, nat_lt, pos, Bool, ◌&&◌, List, [], ◌∷◌, Option, slice_get}
+use Rattle.std.specs.Prelude.{◌<◌, nat_lt, pos, Bool, true, false, ◌&&◌, List, [], ◌∷◌, All, Option, slice_get}
 use Rattle.std.specs.Option.{option_map}
 use Rattle.std.specs.List.{filter_map, list_all}
 use Rattle.qm_math.specs.Fraction.{Fraction, HasPositiveDen, whole, IsBelow, is_below}
+use Rattle.qm_frac.specs.Lowest.{IsFrac}
 use Rattle.qm_model.specs.declared.row.Row.{Row}
 use Rattle.qm_model.specs.declared.row_id.RowId.{RowId}
 use Rattle.qm_model.specs.declared.row_id.RowId.TheVariants as id
 use Rattle.qm_model.specs.declared.game.Problem.{Problem}
 use Rattle.qm_trees.specs.declared.combination.Entry.{Entry}
+use Rattle.qm_trees.specs.Fractions.{is_frac}
 
 pub record Combination : Type 0 where
   pub objective : Bool
@@ -25,6 +27,17 @@ IsBefore (id.Cut m) (id.Row n) = ⊥
 IsBefore (id.Cut m) (id.Uncertain n) = ⊥
 IsBefore (id.Cut m) (id.Cut n) = m < n
 
+abbrev pub is_before : RowId → RowId → Bool
+is_before (id.Row m) (id.Row n) = nat_lt m n
+is_before (id.Row m) (id.Uncertain n) = true
+is_before (id.Row m) (id.Cut n) = true
+is_before (id.Uncertain m) (id.Row n) = false
+is_before (id.Uncertain m) (id.Uncertain n) = nat_lt m n
+is_before (id.Uncertain m) (id.Cut n) = true
+is_before (id.Cut m) (id.Row n) = false
+is_before (id.Cut m) (id.Uncertain n) = false
+is_before (id.Cut m) (id.Cut n) = nat_lt m n
+
 -- the multiplier is a number above 0
 abbrev pub IsPositive : Entry → Type 0
 IsPositive e = HasPositiveDen e.by × IsBelow (whole (pos 0)) e.by
@@ -32,14 +45,24 @@ IsPositive e = HasPositiveDen e.by × IsBelow (whole (pos 0)) e.by
 abbrev pub is_positive : Entry → Bool
 is_positive e = nat_lt 0 e.by.den && is_below (whole (pos 0)) e.by
 
-abbrev pub all_positive : List Entry → Bool
-all_positive es = list_all is_positive es
-
 -- multipliers above 0, each on a row behind the one before
 abbrev pub AreEntries : List Entry → Type 0
 AreEntries [] = Unit {0}
 AreEntries (e ∷ []) = IsPositive e
 AreEntries (e ∷ f ∷ es) = IsPositive e × IsBefore e.row f.row × AreEntries (f ∷ es)
+
+abbrev pub are_entries : List Entry → Bool
+are_entries [] = true
+are_entries (e ∷ []) = is_positive e
+are_entries (e ∷ f ∷ es) = is_positive e && is_before e.row f.row && are_entries (f ∷ es)
+
+-- The form of a combination: the entries are in the order of their rows, no row twice, and each multiplier is above 0
+-- and a fraction of the program.
+abbrev pub AreWellFormed : List Entry → Type 0
+AreWellFormed es = AreEntries es × All (λ e. IsFrac e.by) es
+
+abbrev pub are_well_formed : List Entry → Bool
+are_well_formed es = are_entries es && list_all (λ e. is_frac e.by) es
 
 -- the row that is named, among the rows, the uncertainty rows and the cuts
 abbrev pub row_named : Problem → List Row → RowId → Option Row

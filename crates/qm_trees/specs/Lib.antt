@@ -1,3 +1,4 @@
+pub mod Fractions
 pub mod Entries
 pub mod Evaluation
 pub mod Closing

@@ -1,5 +1,5 @@
 -- A policy, judged in the order of its text.
-use Rattle.std.specs.Prelude.{ℕ, ◌+◌, List, [], ◌∷◌, length, ◌==◌, Ok, slice_set, if◌then◌else◌}
+use Rattle.std.specs.Prelude.{ℕ, ◌+◌, List, [], ◌∷◌, length, ◌&&◌, ◌==◌, Ok, slice_set, if◌then◌else◌}
 use Rattle.qm_math.specs.Fraction.{Fraction}
 use Rattle.qm_model.specs.declared.range.Range.{Range}
 use Rattle.qm_model.specs.declared.variable.Var.{Var}
@@ -14,6 +14,7 @@ use Rattle.qm_trees.specs.declared.policy.Below.{Below, out-Below}
 use Rattle.qm_trees.specs.Verdicts.{Verdict, Fine, Broken, line, ◌then◌}
 use Rattle.qm_model.specs.Ranges.{range_at, single, is_in}
 use Rattle.qm_trees.specs.Ranges.{judge_parts}
+use Rattle.qm_trees.specs.Fractions.{are_fracs}
 use Rattle.qm_trees.specs.Leaves.{leaf_passes}
 use Rattle.qm_trees.specs.EmptyJudgement.{judge_empty}
 
@@ -31,10 +32,10 @@ BelowLayer = node.Below-F Below Policy PolicyPart
 abbrev pub below_of : PolicyPart → BelowLayer
 below_of part = out-Below (out-PolicyPart part).below
 
--- where all whole variables are set: one value for each continuous variable
+-- where all whole variables are set: one value for each continuous variable, each a fraction of the program
 abbrev pub judge_end : Problem → Fraction → List Range → Layer → Verdict
 judge_end P v bx (node.Leaf point) =
-    if length point == length (continuous_vars P) then line rule.Leaf (leaf_passes P v bx point) else Broken rule.Text 0
+    if (length point == length (continuous_vars P)) && are_fracs point then line rule.Leaf (leaf_passes P v bx point) else Broken rule.Text 0
 judge_end P v bx (node.Choose value below) = Broken rule.Text 0
 judge_end P v bx (node.Answer parts) = Broken rule.Text 0
 

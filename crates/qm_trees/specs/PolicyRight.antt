@@ -3,6 +3,7 @@
 use Rattle.std.specs.Prelude.{◌≡◌, ℕ, ◌+◌, List, [], ◌∷◌, All, map, slice_set, IsOk}
 use Rattle.qm_math.specs.Fraction.{Fraction}
 use Rattle.qm_math.specs.Ranges.{IsBetween}
+use Rattle.qm_frac.specs.Lowest.{IsFrac}
 use Rattle.qm_model.specs.declared.range.Range.{Range}
 use Rattle.qm_model.specs.declared.variable.Player.TheVariants.{Exists, All as Universal}
 use Rattle.qm_model.specs.declared.variable.Var.{Var}
@@ -16,8 +17,9 @@ use Rattle.qm_trees.specs.Leaves.{IsRightLeaf, row_holds, objective_reaches}
 use Rattle.qm_trees.specs.EmptyRight.{IsRightEmpty, IsEmptyInRange}
 use Rattle.qm_trees.specs.PolicyJudgement.{Layer, BelowLayer, range_of, below_of}
 
+-- fractions of the program, which make a right leaf
 abbrev pub IsRightEnd : Problem → Fraction → List Range → Layer → Type 0
-IsRightEnd P v bx (node.Leaf point) = IsRightLeaf P v bx point
+IsRightEnd P v bx (node.Leaf point) = All IsFrac point × IsRightLeaf P v bx point
 IsRightEnd P v bx (node.Choose value below) = ⊥
 IsRightEnd P v bx (node.Answer parts) = ⊥
 

@@ -13,7 +13,7 @@ use Rattle.qm_trees.specs.declared.rule.Rule.TheVariants as rule
 use Rattle.qm_trees.specs.declared.refutation.Refute.{Refute, out-Refute}
 use Rattle.qm_trees.specs.declared.refutation.Refute.TheOpen as node
 use Rattle.qm_trees.specs.declared.refutation.RefutePart.{RefutePart, out-RefutePart}
-use Rattle.qm_trees.specs.Entries.{Combination, all_positive, row_named, weighted_rows}
+use Rattle.qm_trees.specs.Entries.{Combination, are_well_formed, row_named, weighted_rows}
 use Rattle.qm_trees.specs.Closing.{closing}
 use Rattle.qm_trees.specs.Verdicts.{Verdict, Broken, line, ◌then◌}
 use Rattle.qm_model.specs.Ranges.{range_at, single, is_in}
@@ -40,14 +40,18 @@ below_of part = (out-RefutePart part).below
 abbrev pub all_named : Problem → List Row → List Entry → Bool
 all_named P cuts es = list_all (λ e. is_some (row_named P cuts e.row)) es
 
--- multipliers are above 0 and the rows are there, and then the combination closes
+-- the rows are there, and then the combination closes
 abbrev pub closes_here : Problem → List Row → List Range → Goal → Combination → Checked Bool
 closes_here P cuts bx G combo =
-    if all_positive combo.entries && all_named P cuts combo.entries then closing P combo.objective (weighted_rows P cuts combo.entries) bx G else Ok false
+    if all_named P cuts combo.entries then closing P combo.objective (weighted_rows P cuts combo.entries) bx G else Ok false
+
+-- the entries are well formed, and then they close
+abbrev pub judge_close : Problem → List Row → Goal → List Range → Combination → Verdict
+judge_close P cuts G bx combo = if are_well_formed combo.entries then line rule.Close (closes_here P cuts bx G combo) else Broken rule.Text 0
 
 -- where all whole variables are set
 abbrev pub judge_end : Problem → List Row → Goal → List Range → Layer → Verdict
-judge_end P cuts G bx (node.Close combo) = line rule.Close (closes_here P cuts bx G combo)
+judge_end P cuts G bx (node.Close combo) = judge_close P cuts G bx combo
 judge_end P cuts G bx (node.Over parts) = Broken rule.Text 0
 judge_end P cuts G bx (node.Pick value completion below) = Broken rule.Text 0
 
@@ -57,7 +61,7 @@ counts_over x covered count = counts_right covered count && (not (is_universal x
 
 -- where x is the next variable and others follow: the line of the node, and what stands below it, which `judge` judges
 abbrev pub judge_move : Problem → List Row → Goal → Var → List Var → ℕ → (List Range → Refute → Verdict) → List Range → Layer → Verdict
-judge_move P cuts G x later depth judge bx (node.Close combo) = line rule.Close (closes_here P cuts bx G combo)
+judge_move P cuts G x later depth judge bx (node.Close combo) = judge_close P cuts G bx combo
 judge_move P cuts G x later depth judge bx (node.Over parts) =
     line rule.Cover (Ok (counts_over x (range_at bx depth) (length parts)))
     then judge_each range_of (λ part. judge (slice_set bx depth (range_of part)) (below_of part)) (range_at bx depth).low (range_at bx depth).high parts

@@ -11,7 +11,7 @@ use Rattle.qm_model.specs.Goals.{Goal}
 use Rattle.qm_trees.specs.declared.combination.Entry.{Entry}
 use Rattle.qm_trees.specs.declared.refutation.Refute.{Refute, out-Refute}
 use Rattle.qm_trees.specs.declared.refutation.Refute.TheOpen as node
-use Rattle.qm_trees.specs.Entries.{Combination, IsPositive, row_named, weighted_rows}
+use Rattle.qm_trees.specs.Entries.{AreWellFormed, Combination, row_named, weighted_rows}
 use Rattle.qm_trees.specs.Closing.{Closes, closing}
 use Rattle.qm_model.specs.Ranges.{range_at, single}
 use Rattle.qm_trees.specs.Picks.{Fit, HoldsOnBox, picked}
@@ -21,10 +21,10 @@ use Rattle.qm_trees.specs.RefuteJudgement.{Head, Layer, range_of, below_of}
 abbrev pub AreNamed : Problem → List Row → List Entry → Type 0
 AreNamed P cuts es = All (λ e. IsSome (row_named P cuts e.row)) es
 
--- multipliers above 0 on rows that are there, which close the goal over the box
+-- well-formed entries on rows that are there, which close the goal over the box
 abbrev pub IsRightClose : Problem → List Row → Goal → List Range → Combination → Type 0
 IsRightClose P cuts G bx combo =
-    All IsPositive combo.entries × AreNamed P cuts combo.entries × Closes P combo.objective (weighted_rows P cuts combo.entries) bx G
+    AreWellFormed combo.entries × AreNamed P cuts combo.entries × Closes P combo.objective (weighted_rows P cuts combo.entries) bx G
 
 abbrev pub IsRightEnd : Problem → List Row → Goal → List Range → Layer → Type 0
 IsRightEnd P cuts G bx (node.Close combo) = IsRightClose P cuts G bx combo

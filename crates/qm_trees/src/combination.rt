@@ -31,18 +31,18 @@ pub struct Combo {
 }
 
 impl Model for Combo {
-    ghost use Rattle.qm_trees.specs.Entries.{Combination, AreEntries};
+    ghost use Rattle.qm_trees.specs.Entries.{Combination, AreWellFormed};
 
     ghost Value = { Combination };
 
     ghost view = { λ c. record { objective = c.objective; entries = c.entries } };
 
-    ghost invariant = { λ c. AreEntries c.entries };
+    ghost invariant = { λ c. AreWellFormed c.entries };
 }
 
 impl Combo {
     ghost use Rattle.std.specs.Prelude.{◌≡◌, [], ◌∷◌, ◌++◌, OnOk, OnErr};
-    ghost use Rattle.qm_trees.specs.Entries.{AreEntries};
+    ghost use Rattle.qm_trees.specs.Entries.{AreEntries, AreWellFormed};
 
     /// A combination without entries.
     pub fn new(alloc: Global, objective: bool) -> Combo
@@ -68,6 +68,8 @@ impl Combo {
         ensures ok { OnOk result (self.new ≡ record self.old { entries = self.old.entries ++ entry ∷ [] }) }
         ensures err { OnErr result (self.new ≡ self.old) }
     {
+        // that it is a fraction of the program
+        let _terms = entry.by.den();
         self.entries.push(entry)
     }
 
@@ -80,7 +82,7 @@ impl Combo {
 
     pub fn entries(&self) -> &[Entry]
         ensures value { result.now ≡ self.now.entries }
-        ensures ordered { AreEntries result.now }
+        ensures well_formed { AreWellFormed result.now }
     {
         self.entries.as_slice()
     }

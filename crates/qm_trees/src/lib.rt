@@ -20,6 +20,7 @@ mod refutation;
 mod refutation_laws;
 mod refutation_sound;
 mod rule;
+mod values;
 
 pub use combination::{Combo, ComboValue, Entry};
 pub use combination_laws::{
@@ -36,3 +37,4 @@ pub use refutation::{Refute, RefutePart};
 pub use refutation_laws::{fine_refutations_are_right, right_refutations_refute_harder_goals};
 pub use refutation_sound::right_refutations_refuse;
 pub use rule::Rule;
+pub use values::values_are_fractions;
