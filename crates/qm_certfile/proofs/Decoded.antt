@@ -3,6 +3,8 @@ use Rattle.std.proofs.Common.{◌≡◌, ◌≢◌, ℕ, zero, suc, ◌+◌, ◌
 use Rattle.std.specs.Prelude.{◌==◌, FitsSigned, nat_lt, if◌then◌else◌}
 use Rattle.std.specs.Option.{option_map}
 use Rattle.std.specs.Int.{w64}
+use Rattle.std.proofs.Common.{to_z, of_z}
+use Rattle.std.proofs.lemmas.Int.{to_z-of_z}
 use Rattle.std.specs.Char.{is_ascii_digit}
 use Rattle.std.proofs.lemmas.Bool.Decides.{nat_tests}
 use Rattle.qm_text.specs.Digits.{are_digits, is_plain_numeral, numeral_value}
@@ -87,7 +89,7 @@ none_found : {V : Type 0} (Spells : V → Type 0) (found : Option V) → ((v : V
 none_found Spells None some none = refl
 none_found Spells (Some v) some none = absurd (none v (some v refl))
 
-outside : {V A : Type 0} (as_typed : V → Option A) (v : V) → as_typed v ≡ None → of_type as_typed (Some v) ≡ Err rule.Number
+pub outside : {V A : Type 0} (as_typed : V → Option A) (v : V) → as_typed v ≡ None → of_type as_typed (Some v) ≡ Err rule.Number
 outside {V} {A} as_typed v e = ap (λ (o : Option A). elim o as (λ _. Said A) [ None ↦ Err rule.Number | Some b ↦ Ok b ]) e
 
 pub typed_err : {V A : Type 0} (Spells Fits : V → Type 0) (found : Option V) (as_typed : V → Option A) (e : NumberFault)
@@ -118,11 +120,22 @@ value_ok word z reads =
     sym (typed_ok (SpellsWhole word) (FitsSigned w64) (whole_of word) as_value z (whole_is word) reads
     ∙ typed_some as_value z z (as_value_is z (read_fits (SpellsWhole word) (FitsSigned w64) z reads)))
 
+-- a number of 64 bits, as code hands it on
+handed_on : (z : ℤ) → FitsSigned w64 z → to_z w64 (of_z w64 z) ≡ z
+handed_on z h = to_z-of_z w64 z h
+
+pub value_passed : (word : List ℕ) (z : ℤ) → ReadsNumber (SpellsWhole word) (FitsSigned w64) (Ok z) → Ok (to_z w64 (of_z w64 z)) ≡ value_word word
+value_passed word z reads = ap Ok (handed_on z (read_fits (SpellsWhole word) (FitsSigned w64) z reads)) ∙ value_ok word z reads
+
 pub value_err : (word : List ℕ) (e : NumberFault) → ReadsNumber (SpellsWhole word) (FitsSigned w64) (Err e) → Err (fault_of e) ≡ value_word word
 value_err word e reads = sym (typed_err (SpellsWhole word) (FitsSigned w64) (whole_of word) as_value e (whole_is word) (whole_some word) as_value_none reads)
 
 pub count_ok : (word : List ℕ) (z : ℤ) → ReadsNumber (SpellsWhole word) (FitsSigned w64) (Ok z) → count_word word ≡ of_type as_count (Some z)
 count_ok word z reads = typed_ok (SpellsWhole word) (FitsSigned w64) (whole_of word) as_count z (whole_is word) reads
+
+pub count_passed : (word : List ℕ) (z : ℤ) (r : Result ℕ Misread) → ReadsNumber (SpellsWhole word) (FitsSigned w64) (Ok z) → r ≡ of_type as_count (Some (to_z w64 (of_z w64 z))) → r ≡ count_word word
+count_passed word z r reads e =
+    e ∙ ap (λ (y : ℤ). of_type as_count (Some y)) (handed_on z (read_fits (SpellsWhole word) (FitsSigned w64) z reads)) ∙ sym (count_ok word z reads)
 
 pub count_err : (word : List ℕ) (e : NumberFault) → ReadsNumber (SpellsWhole word) (FitsSigned w64) (Err e) → Err (fault_of e) ≡ count_word word
 count_err word e reads = sym (typed_err (SpellsWhole word) (FitsSigned w64) (whole_of word) as_count e (whole_is word) (whole_some word) as_count_none reads)

@@ -4,15 +4,22 @@ mod Cuts
 mod Decoded
 mod DifferentTexts
 mod EmptyTold
+pub mod EntryForms
 mod LineSplits
 mod LineTexts
 mod LowestValues
+pub mod Moved
+pub mod NextLines
 mod NumberWords
 mod Pieces
 mod PolicyTold
+pub mod Positions
 mod Quotients
 mod RefuteTold
+pub mod RowOrder
 mod RowWords
+pub mod RowsSaid
 pub mod ToldEndings
 mod TreeShapes
 mod TreeTexts
+pub mod WordCuts

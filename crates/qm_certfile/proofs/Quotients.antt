@@ -1,5 +1,5 @@
 -- The fraction of a word, and what spells it.
-use Rattle.std.proofs.Common.{◌≡◌, ◌≢◌, ℕ, zero, suc, ◌+◌, ◌<◌, ◌≤◌, ◌^◌, Bool, true, false, ◌&&◌, List, [], ◌∷◌, ◌++◌, length, get_or, ℤ, pos, negsuc, Option, None, Some, Result, Ok, Err, IsTrue, refl, sym, ap, ◌∙◌, subst, inl, inr, arith, unsigned_abs}
+use Rattle.std.proofs.Common.{◌≡◌, ◌≢◌, ℕ, zero, suc, ◌+◌, ◌<◌, ◌≤◌, ◌^◌, Bool, true, false, ◌&&◌, List, [], ◌∷◌, ◌++◌, length, get_or, ℤ, pos, negsuc, Option, None, Some, Result, Ok, Err, IsTrue, refl, sym, ap, ap₂, ◌∙◌, subst, inl, inr, arith, unsigned_abs}
 use Rattle.std.specs.Prelude.{◌==◌, ◌⊎◌, nat_lt, nat_le, if◌then◌else◌}
 use Rattle.std.specs.Option.{option_map}
 use Rattle.std.proofs.lemmas.Bool.Decides.{nat_tests}
@@ -22,7 +22,7 @@ use Rattle.qm_certfile.proofs.Decoded.{natural_some, natural_is, whole_some, who
 in_range : (a : Fraction) → IsInRange a → is_in_range a ≡ true
 in_range a h = let num = h.num_fits in let den = h.den_fits in grind (arith, nat_tests)
 
-is_range : (a : Fraction) → is_in_range a ≡ true → IsInRange a
+pub is_range : (a : Fraction) → is_in_range a ≡ true → IsInRange a
 is_range a e = record { num_fits = grind (arith, nat_tests); den_fits = grind (arith, nat_tests) }
 
 not_range : (a : Fraction) → ¬ IsInRange a → is_in_range a ≡ false
@@ -44,20 +44,28 @@ cut_without mark (b ∷ word) none =
     let here : (b == mark) ≡ false = grind (arith, nat_tests) in
     rw here (ap (with_front b) (cut_without mark word (λ k h. none (suc k) (omega arith))))
 
+abbrev first_part : Option (Word × Word) → Word
+first_part None = []
+first_part (Some parts) = parts.0
+
+abbrev second_part : Option (Word × Word) → Word
+second_part None = []
+second_part (Some parts) = parts.1
+
 front_parts : (b mark : ℕ) (word above below : List ℕ) (found : Option (Word × Word)) → ((x y : List ℕ) → found ≡ Some (x, y) → word ≡ x ++ mark ∷ y)
     → with_front b found ≡ Some (above, below) → b ∷ word ≡ above ++ mark ∷ below
 front_parts b mark word above below None before e = absurd cc
 front_parts b mark word above below (Some (x, y)) before e =
-    let first : above ≡ b ∷ x = cc in
-    let second : below ≡ y = cc in
+    let first : above ≡ b ∷ x = sym (ap first_part e) in
+    let second : below ≡ y = sym (ap second_part e) in
     rw (first, second) (ap (λ t. b ∷ t) (before x y refl))
 
 parts_by : (here : Bool) (b mark : ℕ) (word above below : List ℕ) → (b == mark) ≡ here → ((x y : List ℕ) → cut_at mark word ≡ Some (x, y) → word ≡ x ++ mark ∷ y)
     → (if here then Some ([], word) else with_front b (cut_at mark word)) ≡ Some (above, below) → b ∷ word ≡ above ++ mark ∷ below
 parts_by true b mark word above below is before e =
     let same : b ≡ mark = grind (arith, nat_tests) in
-    let first : above ≡ [] = cc in
-    let second : below ≡ word = cc in
+    let first : above ≡ [] = sym (ap first_part e) in
+    let second : below ≡ word = sym (ap second_part e) in
     rw (first, second, same) refl
 parts_by false b mark word above below is before e = front_parts b mark word above below (cut_at mark word) before e
 
@@ -91,15 +99,21 @@ of_broken a e =
     let low : nat_le 2 a.den ≡ true = both.0 in
     (grind (arith, nat_tests), gcd_of_broken (is_in_range a) a refl both.1)
 
+abbrev from_parts : Word → Option (Word × Word) → Option Fraction
+from_parts word None = option_map over_one (whole_of word)
+from_parts word (Some parts) = quotient_of (whole_of parts.0) (natural_of parts.1)
+
 pub fraction_is : (word : List ℕ) (a : Fraction) → SpellsFraction word a → fraction_of word ≡ Some a
 fraction_is word a (inl h) =
     let none : cut_at 47 word ≡ None = cut_without 47 word (whole_no_slash word a.num h.0) in
     let whole : over_one a.num ≡ a = λ i. record { num = a.num; den = sym h.1 i } in
-    rw (none, whole_is word a.num h.0) (ap Some whole)
+    ap (from_parts word) none ∙ ap (option_map over_one) (whole_is word a.num h.0) ∙ ap Some whole
 fraction_is word a (inr h) =
     let q = h.0 in
     let some : cut_at 47 word ≡ Some (q.above, q.below) = ap (cut_at 47) q.parts ∙ cut_join 47 q.above q.below (whole_no_slash q.above a.num q.num) in
-    rw (some, whole_is q.above a.num q.num, natural_is q.below a.den q.den, broken a q.broken h.1) refl
+    ap (from_parts word) some
+    ∙ ap₂ quotient_of (whole_is q.above a.num q.num) (natural_is q.below a.den q.den)
+    ∙ ap (λ (t : Bool). if t then Some a else None) (broken a q.broken h.1)
 
 over_some : (word : List ℕ) (a : Fraction) (found : Option ℤ) → whole_of word ≡ found → option_map over_one found ≡ Some a → SpellsFraction word a
 over_some word a None is e = absurd cc

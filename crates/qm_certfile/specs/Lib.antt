@@ -7,8 +7,11 @@ pub mod CertificateLines
 pub mod Nodes
 pub mod Dues
 pub mod Forms
+pub mod NodesOf
+pub mod ReadSteps
 pub mod WellFormed
 pub mod Passes
 pub mod LineSteps
 pub mod WordSteps
+pub mod SaidSteps
 pub mod Numbers

@@ -1,3 +1,7 @@
+ghost use Rattle.std.specs.Prelude.{◌≡◌, IfOk, IfErr};
+ghost use Rattle.qm_certfile.specs.declared.fault.CertFault.TheVariants as fault;
+ghost use Rattle.qm_certfile.specs.ReadSteps.{IsIn, IsMissing, IsNext, fault_at, unread_at};
+
 use crate::fault::{CertFault, Misread, Unread};
 use qm_text::line_end;
 
@@ -8,8 +12,12 @@ pub struct Cursor {
     pub line: u32,
 }
 
-/// The next line. `Text`, where it is missing or has no LF.
-pub(crate) fn next_line<'a>(text: &'a [u8], cursor: &mut Cursor) -> Result<&'a [u8], CertFault> {
+/// Takes the next line. `Text`, where it is missing or has no LF.
+pub(crate) fn next_line<'a>(text: &'a [u8], cursor: &mut Cursor) -> Result<&'a [u8], CertFault>
+    requires { IsIn text.now cursor.old }
+    ensures ok { IfOk result (λ line. IsNext text.now line.now cursor.old cursor.new × IsIn text.now cursor.new) }
+    ensures err { IfErr result (λ e. (e ≡ fault.Text cursor.old.line) × IsMissing text.now cursor.old) }
+{
     match line_end(text, cursor.at) {
         Some(end) => {
             let line = &text[cursor.at..end];
@@ -21,15 +29,20 @@ pub(crate) fn next_line<'a>(text: &'a [u8], cursor: &mut Cursor) -> Result<&'a [
     }
 }
 
-/// The fault of the line before the cursor.
-pub(crate) fn fault_at(fault: Misread, line: u32) -> CertFault {
+/// The fault of a line.
+pub(crate) fn fault_at(fault: Misread, line: u32) -> CertFault
+    ensures { result ≡ fault_at fault line }
+{
     match fault {
         Misread::Text => CertFault::Text(line),
         Misread::Number => CertFault::Number(line),
     }
 }
 
-pub(crate) fn unread_at(fault: Unread, line: u32) -> CertFault {
+/// The fault of a line, or want of memory.
+pub(crate) fn unread_at(fault: Unread, line: u32) -> CertFault
+    ensures { result ≡ unread_at fault line }
+{
     match fault {
         Unread::Misread(fault) => fault_at(fault, line),
         Unread::Memory => CertFault::Memory,

@@ -21,6 +21,7 @@ mod lines;
 mod lists;
 mod next;
 mod order;
+mod places;
 mod policy_reader;
 mod reader;
 mod refute_reader;

@@ -1,10 +1,10 @@
-ghost use Rattle.std.specs.Prelude.{◌≡◌, ◌&&◌, ◌||◌, not, length, nat_lt, ◌==◌, Bool, IsTrue, None, Some, MatchOption, slice_index};
-ghost use Rattle.qm_text.specs.Digits.{are_digits, is_plain_numeral, numeral_value};
-ghost use Rattle.qm_certfile.specs.Spelling.{are_in_order, entry_row, is_before, whole_of, written};
-ghost use Rattle.qm_certfile.specs.WordSteps.{IsRow, digits_before, is_counting, words_behind};
+ghost use Rattle.std.specs.Prelude.{◌≡◌, ◌∷◌, length, nat_lt, int_lt, IsTrue, None, Some, MatchOption};
+ghost use Rattle.qm_frac.specs.Signs.{signed};
+ghost use Rattle.qm_text.specs.Digits.{are_digits, numeral_value};
+ghost use Rattle.qm_certfile.specs.Spelling.{are_in_order, entry_row, is_before, whole_of, written, written_row};
+ghost use Rattle.qm_certfile.specs.WordSteps.{IsRow, IsSignedDigits, digits_before, is_counting, words_behind};
 
-use crate::words::next_word;
-use memchr::memchr;
+use crate::words::{cut_at, next_word};
 
 /// A row as it is written: its kind, and the sign and the digits of its number.
 #[derive(Clone, Copy)]
@@ -57,8 +57,8 @@ fn is_before(first: &[u8], second: &[u8]) -> bool
 fn written_row(entry: &[u8]) -> Option<RowWord<'_>>
     ensures { MatchOption result (entry_row entry.now ≡ None) (λ w. IsRow (entry_row entry.now) w.kind w.minus w.digits.now) }
 {
-    match memchr(b'=', entry) {
-        Some(at) => row_of(&entry[..at]),
+    match cut_at(b'=', entry) {
+        Some((row, _)) => row_of(row),
         None => None,
     }
 }
@@ -104,13 +104,20 @@ fn signed_digits(number: &[u8]) -> (bool, &[u8])
 fn is_counting(digits: &[u8]) -> bool
     ensures { result ≡ is_counting digits.now }
 {
-    digits.first().is_some_and(|digit| *digit != b'0') && digits.iter().all(|digit| digit.is_ascii_digit())
+    !digits.is_empty() && are_digits(digits) && digits[0] != b'0'
+}
+
+/// Whether each byte is a digit.
+fn are_digits(bytes: &[u8]) -> bool
+    ensures { result ≡ are_digits bytes.now }
+{
+    bytes.iter().all(|byte| byte.is_ascii_digit())
 }
 
 /// Whether the first number is less.
 fn is_less(a: RowWord<'_>, b: RowWord<'_>) -> bool
-    requires a { IsTrue (is_counting a.entry.digits.now) }
-    requires b { IsTrue (is_counting b.entry.digits.now) }
+    requires a { IsTrue (is_counting a.digits.now) }
+    requires b { IsTrue (is_counting b.digits.now) }
     ensures { result ≡ int_lt (signed a.entry.minus (numeral_value a.entry.digits.now)) (signed b.entry.minus (numeral_value b.entry.digits.now)) }
 {
     if a.minus {

@@ -2,17 +2,12 @@ use crate::cursor::Cursor;
 use crate::empty_reader::read_empty;
 use crate::fault::CertFault;
 use crate::next::{next_count, next_range, next_value, next_values, take_illegal};
-use crate::said::player_at;
+use crate::places::{continuous_count, player_at};
 use qm_model::{Player, Problem};
 use qm_trees::{Below, Policy, PolicyPart};
 use sqlite_items::{Boxed, Items};
 use std::alloc::Global;
 
-/// How many continuous variables there are.
-fn continuous_count(problem: &Problem) -> usize {
-    let wholes = problem.wholes as usize;
-    problem.vars.len() - wholes.min(problem.vars.len())
-}
 
 /// Reads a policy where so many variables are set.
 #[cycle(read_policies)]

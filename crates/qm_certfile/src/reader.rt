@@ -5,7 +5,8 @@ use crate::fault::CertFault;
 use crate::next::{next_alone, next_claim, next_values, next_version, text_end};
 use crate::policy_reader::read_policy;
 use crate::refute_reader::read_refute;
-use crate::said::{Claim, universal_count};
+use crate::places::{universal_count, whole_vars};
+use crate::said::Claim;
 use crate::writer::claimed;
 use qm_frac::Frac;
 use qm_io::List;
@@ -30,7 +31,7 @@ pub fn read(alloc: Global, text: &[u8], game: &Game) -> Result<Certificate, Cert
 /// Reads the lines of the version and of the universal play.
 fn read_begin(alloc: Global, problem: &Problem, text: &[u8], cursor: &mut Cursor) -> Result<List<i64>, CertFault> {
     next_version(text, cursor)?;
-    next_values(alloc, b"legal", universal_count(problem, 0), text, cursor)
+    next_values(alloc, b"legal", universal_count(whole_vars(problem)), text, cursor)
 }
 
 /// Reads a refutation of the whole game.

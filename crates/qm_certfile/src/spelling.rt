@@ -3,7 +3,7 @@ ghost use Rattle.qm_certfile.specs.Spelling.{as_count, as_row, count_word, entry
 ghost use Rattle.qm_certfile.specs.WordSteps.{row_number_said};
 
 use crate::fault::{Misread, fault_of};
-use memchr::memchr;
+use crate::words::cut_at;
 use qm_frac::Frac;
 use qm_model::RowId;
 use qm_text::{read_frac, read_whole};
@@ -61,6 +61,7 @@ fn multiplier_word(word: &[u8]) -> Result<Frac, Misread>
 }
 
 /// A row's number among its kind, counted from 0.
+#[tactic(auto, using(crate::proofs::RowsSaid::row_zero, crate::proofs::RowsSaid::row_some, crate::proofs::RowsSaid::row_err))]
 fn row_number(word: &[u8]) -> Result<u32, Misread>
     ensures { result ≡ row_number_said (whole_of word.now) }
 {
@@ -72,6 +73,7 @@ fn row_number(word: &[u8]) -> Result<u32, Misread>
 }
 
 /// A row.
+#[tactic(auto, using(crate::proofs::RowsSaid::row_said))]
 fn row_word(word: &[u8]) -> Result<RowId, Misread>
     ensures { result ≡ of_type as_row (written_row word.now) }
 {
@@ -109,8 +111,8 @@ pub(crate) fn first_of(first: Misread, second: Misread) -> Misread
 pub(crate) fn entry_word(word: &[u8]) -> Result<Entry, Misread>
     ensures { result ≡ entry_said word.now }
 {
-    match memchr(b'=', word) {
-        Some(at) => entry_of(row_word(&word[..at]), multiplier_word(&word[at + 1..])),
+    match cut_at(b'=', word) {
+        Some((row, by)) => entry_of(row_word(row), multiplier_word(by)),
         None => Err(Misread::Text),
     }
 }

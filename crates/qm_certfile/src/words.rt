@@ -1,5 +1,6 @@
 ghost use Rattle.std.specs.Prelude.{◌≡◌, ◌<◌, ◌≤◌, ◌∷◌, [], length, None, Some, MatchOption};
 ghost use Rattle.qm_certfile.specs.Pieces.{words_of};
+ghost use Rattle.qm_certfile.specs.Spelling.{cut_at};
 ghost use Rattle.qm_certfile.specs.Forms.{behind, is_line};
 ghost use Rattle.qm_certfile.specs.WordSteps.{words_behind};
 
@@ -11,6 +12,16 @@ pub(crate) fn cut_word(line: &[u8]) -> (&[u8], &[u8])
     ensures rest { length result.1.now ≤ length line.now }
 {
     line.split_at(memchr(b' ', line).unwrap_or(line.len()))
+}
+
+/// What stands before the first such byte of a word and behind it.
+pub(crate) fn cut_at(mark: u8, word: &[u8]) -> Option<(&[u8], &[u8])>
+    ensures { MatchOption result (cut_at mark word.now ≡ None) (λ x. cut_at mark word.now ≡ Some (x.0.now, x.1.now)) }
+{
+    match memchr(mark, word) {
+        Some(at) => Some((&word[..at], &word[at + 1..])),
+        None => None,
+    }
 }
 
 /// The next word of what stands behind one, and what stands behind that.
@@ -33,6 +44,7 @@ pub(crate) fn behind<'a>(kind: &[u8], line: &'a [u8]) -> Option<&'a [u8]>
 }
 
 /// Whether the line is this word alone.
+#[tactic(auto, using(crate::proofs::WordCuts::none_behind))]
 pub(crate) fn is_alone(kind: &[u8], line: &[u8]) -> bool
     ensures { result ≡ is_line (kind.now ∷ []) (words_of line.now) }
 {

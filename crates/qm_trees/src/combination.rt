@@ -56,7 +56,7 @@ impl Combo {
 
     /// The combination of these entries.
     pub fn of(objective: bool, entries: List<Entry>) -> Combo
-        requires { AreEntries entries }
+        requires { AreWellFormed entries }
         ensures { result ≡ record { objective = objective; entries = entries } }
     {
         Combo { objective, entries }
