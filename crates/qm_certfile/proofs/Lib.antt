@@ -3,6 +3,7 @@ mod CertificateTexts
 mod Cuts
 mod Decoded
 mod DifferentTexts
+pub mod EmptyRead
 mod EmptyTold
 pub mod EntryForms
 mod LineSplits
@@ -22,4 +23,5 @@ pub mod RowsSaid
 pub mod ToldEndings
 mod TreeShapes
 mod TreeTexts
+pub mod TreesRead
 pub mod WordCuts

@@ -15,7 +15,7 @@ use Rattle.qm_certfile.specs.Styles.{first_style}
 use Rattle.qm_certfile.specs.Pieces.{lines_of, words_of}
 use Rattle.qm_certfile.specs.Spelling.{Said}
 use Rattle.qm_certfile.specs.Nodes.{Node, Fixed}
-use Rattle.qm_certfile.specs.Dues.{Due, after, illegal_line}
+use Rattle.qm_certfile.specs.Dues.{Due, Ranges, after, illegal_line, ranges}
 use Rattle.qm_certfile.specs.Forms.{form_of, is_line, said_at}
 
 -- a place of a text at which so many lines may have ended
@@ -102,3 +102,10 @@ IsOther text cursor = IsMissing text cursor ⊎ ((line : List ℕ) × (after : C
 abbrev pub TakesIllegal : List ℕ → Cursor → Cursor → Bool → Type 0
 TakesIllegal text old new true = NextSays text (fixed_said illegal_line) old new (Fixed illegal_line)
 TakesIllegal text old new false = (new ≡ old) × IsOther text old
+
+-- a range was read where it and k more are due, each with this under it
+abbrev pub MeetsPart : Problem → List ℕ → Due → List Node → Cursor → Cursor → Type 0
+MeetsPart P text due nodes old new = (k : ℕ) (behind : List Due) → Moves P text (Ranges k due ∷ behind) nodes (ranges k due ++ behind) old new
+
+abbrev pub FailsPart : Problem → List ℕ → Due → Cursor → CertFault → Type 0
+FailsPart P text due cursor e = (k : ℕ) (behind : List Due) → IsFault P text (Ranges k due ∷ behind) cursor e
