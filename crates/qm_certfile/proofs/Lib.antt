@@ -13,9 +13,11 @@ pub mod Moved
 pub mod NextLines
 mod NumberWords
 mod Pieces
+pub mod PolicyRead
 mod PolicyTold
 pub mod Positions
 mod Quotients
+pub mod RefuteRead
 mod RefuteTold
 pub mod RowOrder
 mod RowWords

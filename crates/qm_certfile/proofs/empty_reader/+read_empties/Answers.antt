@@ -5,7 +5,7 @@ use Rattle.qm_certfile.specs.Nodes.{Split}
 use Rattle.qm_certfile.specs.NodesOf.{empty_nodes, empty_part_nodes, in_turn}
 use Rattle.qm_certfile.specs.Pieces.{words_of}
 use Rattle.qm_certfile.specs.ReadSteps.{Fails, FailsPart}
-use Rattle.std.proofs.Common.{rules, [], ◌∷◌, ◌++◌, map}
+use Rattle.std.proofs.Common.{rules, [], ◌∷◌, ◌++◌, ap, map, length-append}
 use Rattle.qm_certfile.proofs.EmptyRead.{split_nodes, split_told}
 use Rattle.qm_certfile.proofs.TreesRead.{below_fails, below_meets, err_out, node_fails, part_below_fails, part_fails, parts_fail, parts_more}
 use Rattle.qm_certfile.proofs.empty_reader.+read_empties.Goals as goal
@@ -58,7 +58,7 @@ read_empty_parts-loop-turn-preserved t c =
     let pushed : c.push.new.self ≡ c.loop-turn.parts ++ c.in_ok-part.part ∷ [] = search rules in
     record {
       place = c.in_ok-part.ensures.place;
-      count = search rules;
+      count = omega (arith, ap length pushed, length-append c.loop-turn.parts (c.in_ok-part.part ∷ []), c.loop-turn.invariant.count);
       moved =
           parts_more c.args.problem.now c.args.text.now empty_part_nodes (Empty c.args.least) c.args.count c.loop-turn.turn c.loop-turn.parts c.push.new.self c.in_ok-part.part c.args.cursor.now c.loop-turn.cursor c.read_empty_part.new.cursor
           c.loop-turn-test.true c.loop-turn.invariant.moved c.in_ok-part.ensures.ok pushed;
