@@ -13,6 +13,7 @@ use Rattle.qm_trees.specs.declared.rule.Rule.TheVariants as broken
 use Rattle.qm_trees.specs.declared.policy.Policy.{Policy as Tree}
 use Rattle.qm_trees.specs.declared.policy.Policy.TheVariants.{Answer as AnswerTree, Choose as ChooseTree, rolls-Answer, rolls-Choose}
 use Rattle.qm_trees.specs.declared.policy.Below.TheOpen as answer
+use Rattle.qm_trees.specs.declared.policy.Below.TheVariants.{On as OnPolicy, rolls-On}
 use Rattle.qm_trees.specs.declared.policy.Below.TheFolds.{fold-roll-Below, fold-roll-Policy}
 use Rattle.qm_trees.specs.declared.policy.PolicyPart.{PolicyPart}
 use Rattle.qm_certfile.specs.declared.cursor.Cursor.{Cursor}
@@ -27,8 +28,8 @@ use Rattle.qm_certfile.specs.Spelling.{Said, count_word, each_of, fraction_word,
 use Rattle.qm_certfile.specs.Nodes.{Node, Answer, Choose, Fixed, Leaf}
 use Rattle.qm_certfile.specs.Dues.{Due, Below, Policy, after, illegal_line}
 use Rattle.qm_certfile.specs.Forms.{form_of, is_line, player_at, policy_said, rule_of, said_as, said_at, said_behind}
-use Rattle.qm_certfile.specs.NodesOf.{below_step, in_turn, policy_nodes, policy_part_nodes, policy_part_step, policy_step}
-use Rattle.qm_certfile.specs.ReadSteps.{Fails, IsFault, IsMissing, IsNext, IsOther, Meets, Moves, NextFails, NextSays, form_at, lines_at}
+use Rattle.qm_certfile.specs.NodesOf.{below_nodes, below_step, in_turn, policy_nodes, policy_part_nodes, policy_part_step, policy_step}
+use Rattle.qm_certfile.specs.ReadSteps.{Fails, IsFault, IsMissing, IsNext, IsOther, Meets, Moves, NextFails, NextSays, fixed_said, form_at, lines_at}
 use Rattle.qm_certfile.proofs.WordCuts.{some_piece}
 use Rattle.qm_certfile.proofs.TreesRead.{line_fails}
 
@@ -73,6 +74,21 @@ pub answer_is : (P : Problem) (depth : ℕ) → player_at P depth ≡ Some Unive
 answer_is P depth is words = policy_is P depth (Some Universal) words is
 
 -- ---- below a range
+
+pub on_nodes : (policy : Tree) → below_nodes (OnPolicy policy) ≡ policy_nodes policy
+on_nodes policy = ap below_nodes (sym (rolls-On policy)) ∙ fold-roll-Below (List Node) (List Node) (List Node) below_step policy_step policy_part_step (answer.On policy)
+
+illegal_by : (t : Bool) (P : Problem) (depth : ℕ) (words : Line) (node : Node) → (if t then Ok (Fixed illegal_line) else Err rule.Text) ≡ Ok node
+    → (if t then Ok (Fixed illegal_line) else policy_said first_style P depth words) ≡ Ok node
+illegal_by true P depth words node e = e
+illegal_by false P depth words node e = absurd cc
+
+pub illegal_says : (P : Problem) (text : List ℕ) (depth : ℕ) (old new : Cursor) (node : Node) → NextSays text (fixed_said illegal_line) old new node → NextSays text (said_at first_style P (Below depth)) old new node
+illegal_says P text depth old new node says = record {
+  line = says.line;
+  next = says.next;
+  says = illegal_by (is_line illegal_line (words_of says.line)) P depth (words_of says.line) node says.says;
+}
 
 -- where no line `illegal` stands, what stands below a range is a policy
 below_same : (P : Problem) (depth : ℕ) (words : Line) → is_line illegal_line words ≡ false → said_at first_style P (Below depth) words ≡ said_at first_style P (Policy depth) words

@@ -28,6 +28,8 @@ pub(crate) fn read_policy(
     ensures ok { IfOk result (λ policy. Meets problem.now text.now (Policy depth ∷ []) (policy_nodes policy) cursor.old cursor.new) }
     ensures err { IfErr result (λ e. Fails problem.now text.now (Policy depth ∷ []) cursor.old e) }
 {
+    // that it has 32 bits
+    let _wholes = problem.wholes;
     match player_at(problem, depth) {
         None => {
             let count = continuous_count(problem);

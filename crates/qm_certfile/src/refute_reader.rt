@@ -27,6 +27,8 @@ pub(crate) fn read_refute(
     ensures ok { IfOk result (λ tree. Meets problem.now text.now (Refute depth ∷ []) (refute_nodes tree) cursor.old cursor.new) }
     ensures err { IfErr result (λ e. Fails problem.now text.now (Refute depth ∷ []) cursor.old e) }
 {
+    // that it has 32 bits
+    let _wholes = problem.wholes;
     let said = next_refute(alloc, problem, depth, text, cursor)?;
     match said {
         RefuteSaid::Close(combo) => Ok(Tree::Close(combo)),
