@@ -9,6 +9,7 @@ pub mod Dues
 pub mod Forms
 pub mod NodesOf
 pub mod ReadSteps
+pub mod ReadWhole
 pub mod WellFormed
 pub mod Passes
 pub mod LineSteps
