@@ -26,7 +26,7 @@ read_below-returns-in_err-policy-clause-err t c =
     let other = c.if-take_illegal.ensures.line in
     err_out (λ e. Fails c.args.problem.now c.args.text.now (Below c.args.depth ∷ []) c.args.cursor.now e) c.from_residual-in_err-policy.result _ c.from_residual-in_err-policy.ensures.1
     (below_fails_so c.args.problem.now c.args.text.now c.args.depth c.args.cursor.now _ other.1
-    (subst (λ (x : Cursor). Fails c.args.problem.now c.args.text.now (Policy c.args.depth ∷ []) x _) other.0 c.in_err-policy.ensures.err))
+    (subst (λ (x : Cursor). Fails c.args.problem.now c.args.text.now (Policy c.args.depth ∷ []) x c.in_err-policy.field-0.0) other.0 c.in_err-policy.ensures.err))
 
 pub read_below-returns-clause-ok : goal.read_below-returns-clause-ok
 read_below-returns-clause-ok t c =
