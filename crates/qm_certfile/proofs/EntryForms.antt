@@ -154,7 +154,7 @@ rows_before : (x y : Option Written) (r s : RowId) → RowFrom x r → RowFrom y
 rows_before x y r s p q e =
     let here : is_before (Some p.at) (Some q.at) ≡ true = ap₂ is_before (sym p.found_is) (sym q.found_is) ∙ e in
     let there : nat_lt p.at.kind q.at.kind || (p.at.kind == q.at.kind && int_lt (pos (suc p.number)) (pos (suc q.number))) ≡ true =
-      ap₂ (λ (a : ℤ) (b : ℤ). nat_lt p.at.kind q.at.kind || (p.at.kind == q.at.kind && int_lt a b)) (sym p.number_is) (sym q.number_is) ∙ here in
+    ap₂ (λ (a : ℤ) (b : ℤ). nat_lt p.at.kind q.at.kind || (p.at.kind == q.at.kind && int_lt a b)) (sym p.number_is) (sym q.number_is) ∙ here in
     subst (λ (t : RowId). IsBefore t s) (sym p.row_is)
     (subst (λ (t : RowId). IsBefore (row_id p.at.kind p.number) t) (sym q.row_is)
     (before_by p.at.kind q.at.kind p.number q.number p.kind q.kind (order_by p.at.kind q.at.kind p.number q.number there)))

@@ -65,7 +65,7 @@ line_there text old new end line place first is at number =
     let len = length-drop old.at text in
     let there = first_there text old.at end inside first in
     let behind : drop (end - old.at + 1) (drop old.at text) ≡ drop new.at text =
-      drop-drop (end - old.at + 1) old.at text ∙ ap (λ n. drop n text) (omega arith) in
+    drop-drop (end - old.at + 1) old.at text ∙ ap (λ n. drop n text) (omega arith) in
     let here : end - old.at < length (drop old.at text) = omega arith in
     let byte = is_end (get_or (drop old.at text) (end - old.at) 0) there.1 in (
       record {

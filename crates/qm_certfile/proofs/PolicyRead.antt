@@ -53,10 +53,12 @@ by_player P depth words (Some Exists) = said_as Choose (said_behind (codes "choo
 by_player P depth words (Some Universal) = said_as Answer (said_behind (codes "answer" ∷ []) (one count_word) words)
 
 by_found : (P : Problem) (depth : ℕ) (words : Line) (found : Option Player) → (elim found as (λ _. Said Node) [
-      None ↦ said_as Leaf (said_behind (codes "leaf" ∷ []) (each_of fraction_word (length (continuous_vars P))) words)
-    | Some player ↦ elim player as (λ _. Said Node) [
-        Exists ↦ said_as Choose (said_behind (codes "choose" ∷ []) (one value_word) words)
-      | Universal ↦ said_as Answer (said_behind (codes "answer" ∷ []) (one count_word) words) ] ]) ≡ by_player P depth words found
+  | None ↦ said_as Leaf (said_behind (codes "leaf" ∷ []) (each_of fraction_word (length (continuous_vars P))) words)
+  | Some player ↦ elim player as (λ _. Said Node) [
+    | Exists ↦ said_as Choose (said_behind (codes "choose" ∷ []) (one value_word) words)
+    | Universal ↦ said_as Answer (said_behind (codes "answer" ∷ []) (one count_word) words)
+  ]
+]) ≡ by_player P depth words found
 by_found P depth words None = refl
 by_found P depth words (Some Exists) = refl
 by_found P depth words (Some Universal) = refl
@@ -123,9 +125,9 @@ step_is : (P : Problem) (d : Due) (behind : List Due) (line next : List ℕ) (li
 step_is P d behind line next lines s is =
     step_by (said_at first_style P d (words_of line)) ∙ ap (step_to P d behind (next ∷ lines)) is
   where
-  step_by : (s : Said Node) → (elim s as (λ _. Verdict) [ Ok node ↦ (Fine 1) then form_of first_style P (after first_style d node ++ behind) (next ∷ lines) | Err m ↦ Broken (rule_of m) 0 ]) ≡ step_to P d behind (next ∷ lines) s
-  step_by (Ok node) = refl
-  step_by (Err m) = refl
+    step_by : (s : Said Node) → (elim s as (λ _. Verdict) [ Ok node ↦ (Fine 1) then form_of first_style P (after first_style d node ++ behind) (next ∷ lines) | Err m ↦ Broken (rule_of m) 0 ]) ≡ step_to P d behind (next ∷ lines) s
+    step_by (Ok node) = refl
+    step_by (Err m) = refl
 
 longer : (d : Due) (dues : List Due) → d ∷ dues ≡ dues → ⊥
 longer d dues e = let len : suc (length dues) ≡ length dues = ap length e in omega arith

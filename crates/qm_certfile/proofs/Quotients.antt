@@ -140,7 +140,7 @@ quotient_some word above below a (Some n) (Some d) parts p q e =
 pub fraction_some : (word : List ℕ) (a : Fraction) → fraction_of word ≡ Some a → SpellsFraction word a
 fraction_some word a e =
     elim (cut_at 47 word) as (λ (o : Option (Word × Word)). cut_at 47 word ≡ o
-        → (elim o [ None ↦ option_map over_one (whole_of word) | Some parts ↦ quotient_of (whole_of parts.0) (natural_of parts.1) ]) ≡ Some a → SpellsFraction word a) [
+    → (elim o [ None ↦ option_map over_one (whole_of word) | Some parts ↦ quotient_of (whole_of parts.0) (natural_of parts.1) ]) ≡ Some a → SpellsFraction word a) [
       | None ↦ λ is f. over_some word a (whole_of word) refl f
       | Some (x, y) ↦ λ is f. quotient_some word x y a (whole_of x) (natural_of y) (cut_parts 47 word x y is) refl refl f
     ] refl e

@@ -185,14 +185,18 @@ whole_without (b ∷ word) first =
 pub numbered_some : (kind : ℕ) (number digits : List ℕ) (minus : Bool) → IsSignedDigits number minus digits → is_counting digits ≡ true → IsRow (written (Some kind) (whole_of number)) kind minus digits
 numbered_some kind number digits minus (inl (sign, is)) h =
     let n = some_counting digits h in
-    let value = natural_is digits (numeral_value digits) (plain_of_counting digits h, refl) in
-    (ap (λ w. written (Some kind) (whole_of w)) is ∙ ap (λ o. written (Some kind) (below_zero o)) value ∙ below_row kind n.0 (numeral_value digits) n.1
-    ∙ ap (λ s. Some (record { kind = kind; number = signed s (numeral_value digits) })) (sym sign), h)
+    let value = natural_is digits (numeral_value digits) (plain_of_counting digits h, refl) in (
+      ap (λ w. written (Some kind) (whole_of w)) is ∙ ap (λ o. written (Some kind) (below_zero o)) value ∙ below_row kind n.0 (numeral_value digits) n.1
+          ∙ ap (λ s. Some (record { kind = kind; number = signed s (numeral_value digits) })) (sym sign),
+      h,
+    )
 numbered_some kind number digits minus (inr (sign, is, first)) h =
     let n = some_counting digits h in
-    let value = natural_is digits (numeral_value digits) (plain_of_counting digits h, refl) in
-    (ap (λ o. written (Some kind) o) (whole_without number first ∙ ap (λ w. option_map pos (natural_of w)) is ∙ ap (option_map pos) value) ∙ above_row kind n.0 (numeral_value digits) n.1
-    ∙ ap (λ s. Some (record { kind = kind; number = signed s (numeral_value digits) })) (sym sign), h)
+    let value = natural_is digits (numeral_value digits) (plain_of_counting digits h, refl) in (
+      ap (λ o. written (Some kind) o) (whole_without number first ∙ ap (λ w. option_map pos (natural_of w)) is ∙ ap (option_map pos) value) ∙ above_row kind n.0 (numeral_value digits) n.1
+          ∙ ap (λ s. Some (record { kind = kind; number = signed s (numeral_value digits) })) (sym sign),
+      h,
+    )
 
 none_natural : (t : Bool) (digits : List ℕ) → is_plain_numeral digits ≡ t → is_counting digits ≡ false → (natural_of digits ≡ None) ⊎ (natural_of digits ≡ Some 0)
 none_natural true digits is h = inr (rw is (ap Some (zero_of_plain digits is h)))

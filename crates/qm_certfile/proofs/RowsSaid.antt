@@ -66,4 +66,3 @@ row_said kind None = refl
 row_said kind (Some (pos zero)) = refl
 row_said kind (Some (pos (suc n))) = row_type (nat_lt (suc n) (2 ^ 32)) kind n refl
 row_said kind (Some (negsuc n)) = refl
-

@@ -105,8 +105,8 @@ module _ (P : Problem) (text : List ℕ) where
       let left : suc (count - (turn + 1)) ≡ count - turn = omega arith in
       let end = ranges (count - (turn + 1)) due ++ behind in
       let next : Moves P text (ranges (count - turn) due ++ behind) (nodes part) end here new =
-        subst (λ n. Moves P text (ranges n due ++ behind) (nodes part) end here new) left (meets (count - (turn + 1)) behind) in
+      subst (λ n. Moves P text (ranges n due ++ behind) (nodes part) end here new) left (meets (count - (turn + 1)) behind) in
       let all : in_turn (map nodes more) ≡ in_turn (map nodes parts) ++ nodes part =
-        ap (λ ps. in_turn (map nodes ps)) is ∙ ap in_turn (map_more nodes parts part) ∙ in_turn_more (map nodes parts) (nodes part) in
+      ap (λ ps. in_turn (map nodes ps)) is ∙ ap in_turn (map_more nodes parts part) ∙ in_turn_more (map nodes parts) (nodes part) in
       subst (λ ns. Moves P text (ranges count due ++ behind) ns end start new) (sym all)
       (moves_then P text (ranges count due ++ behind) (ranges (count - turn) due ++ behind) end (in_turn (map nodes parts)) (nodes part) start here new (moved behind) next)

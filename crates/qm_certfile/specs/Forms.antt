@@ -99,10 +99,12 @@ claim_said words =
 
 abbrev pub policy_said : Style → Problem → ℕ → Line → Said Node
 policy_said style P depth words = elim (player_at P depth) [
-    None ↦ said_as Leaf (said_behind (codes "leaf" ∷ []) (each_of fraction_word (length (continuous_vars P))) words)
+  | None ↦ said_as Leaf (said_behind (codes "leaf" ∷ []) (each_of fraction_word (length (continuous_vars P))) words)
   | Some player ↦ elim player [
-      Exists ↦ said_as Choose (said_behind (codes "choose" ∷ style.variable depth) (one value_word) words)
-    | Universal ↦ counted Answer (codes "answer") (style.variable depth) words ] ]
+    | Exists ↦ said_as Choose (said_behind (codes "choose" ∷ style.variable depth) (one value_word) words)
+    | Universal ↦ counted Answer (codes "answer") (style.variable depth) words
+  ]
+]
 
 abbrev pub is_kind : Word → Line → Bool
 is_kind kind [] = false
@@ -117,8 +119,9 @@ abbrev pub move_said : Style → Problem → ℕ → Player → Line → Said No
 move_said style P depth player words =
     if is_kind (codes "over") words then counted Over (codes "over") (style.variable depth) words
     else elim player [
-      Exists ↦ Err rule.Text
-    | Universal ↦ said_behind (codes "pick" ∷ style.variable depth) (pick_said (universal_count (drop (depth + 1) (whole_vars P)))) words ]
+      | Exists ↦ Err rule.Text
+      | Universal ↦ said_behind (codes "pick" ∷ style.variable depth) (pick_said (universal_count (drop (depth + 1) (whole_vars P)))) words
+    ]
 
 abbrev pub refute_said : Style → Problem → ℕ → Line → Said Node
 refute_said style P depth words =
@@ -156,8 +159,9 @@ form_of style P (d ∷ dues) (rest ∷ []) = Broken broken.Text 0
 form_of style P [] (line ∷ next ∷ lines) = Broken broken.Text 0
 form_of style P (d ∷ dues) (line ∷ next ∷ lines) =
     elim (said_at style P d (words_of line)) [
-      Ok node ↦ Fine 1 then form_of style P (after style d node ++ dues) (next ∷ lines)
-    | Err r ↦ Broken (rule_of r) 0 ]
+      | Ok node ↦ Fine 1 then form_of style P (after style d node ++ dues) (next ∷ lines)
+      | Err r ↦ Broken (rule_of r) 0
+    ]
 
 -- the first line of a certificate's text that isn't in form, counted from 0
 unfoldable pub certificate_form : Style → Problem → List ℕ → Verdict

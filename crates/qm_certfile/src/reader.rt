@@ -20,7 +20,7 @@ use crate::writer::claimed;
 use qm_frac::Frac;
 use qm_io::List;
 use qm_model::{Game, Problem};
-use qm_trees::{Refute as Tree, Policy as Moves};
+use qm_trees::{Policy as Moves, Refute as Tree};
 use std::alloc::Global;
 
 /// The certificate of the game that the text is. `Text` and `Number` name the first line that isn't in form.

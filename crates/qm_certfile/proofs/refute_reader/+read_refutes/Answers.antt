@@ -27,13 +27,13 @@ read_refute-returns-in_err-parts-in-Over-clause-err t c =
     let says = rw c.in-Over.is at c.in_ok-said.ensures.ok in
     err_out (λ e. Fails c.args.problem.now c.args.text.now (Refute c.args.depth ∷ []) c.args.cursor.now e) c.from_residual-in_err-parts-in-Over.result _ c.from_residual-in_err-parts-in-Over.ensures.1
     (below_fails c.args.problem.now c.args.text.now (Refute c.args.depth) (Over c.in-Over.count) (ranges c.in-Over.count (Refute (c.args.depth + 1)))
-    c.args.cursor.now c.next_empty.new.cursor _ says refl c.in_err-parts-in-Over.ensures.err)
+    c.args.cursor.now c.next_refute.new.cursor _ says refl c.in_err-parts-in-Over.ensures.err)
 
 pub read_refute-returns-in_ok-parts-in-Over-clause-ok : goal.read_refute-returns-in_ok-parts-in-Over-clause-ok
 read_refute-returns-in_ok-parts-in-Over-clause-ok t c =
     let says = rw c.in-Over.is at c.in_ok-said.ensures.ok in
     below_meets c.args.problem.now c.args.text.now (Refute c.args.depth) (Over c.in-Over.count) (ranges c.in-Over.count (Refute (c.args.depth + 1)))
-    (in_turn (map refute_part_nodes c.in_ok-parts-in-Over.parts)) _ c.args.cursor.now c.next_empty.new.cursor c.read_refute_parts.new.cursor says refl c.in_ok-parts-in-Over.ensures.ok
+    (in_turn (map refute_part_nodes c.in_ok-parts-in-Over.parts)) _ c.args.cursor.now c.next_refute.new.cursor c.read_refute_parts.new.cursor says refl c.in_ok-parts-in-Over.ensures.ok
     (over_nodes c.in_ok-parts-in-Over.parts c.in-Over.count c.in_ok-parts-in-Over.ensures.count)
 
 pub read_refute_part-returns-in_err-range-clause-err : goal.read_refute_part-returns-in_err-range-clause-err
