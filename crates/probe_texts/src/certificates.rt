@@ -1,5 +1,6 @@
 use probe_words::{Stated, bytes_of, game_of};
-use qm_certfile::{CertFault, read, write};
+use qm_certfile::write;
+use qm_certread::{CertFault, read};
 use qm_game::Game;
 use std::alloc::{AllocError, Global};
 

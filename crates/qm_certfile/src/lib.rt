@@ -12,32 +12,17 @@
 #![tactic(auto)]
 
 mod certificate;
-mod cursor;
-mod empty_reader;
 mod empty_trees;
 mod endings;
-mod fault;
 mod laws;
 mod lines;
-mod lists;
-mod next;
-mod order;
-mod places;
-mod policy_reader;
-mod reader;
-mod refute_reader;
-mod said;
-mod spelling;
 mod trees;
-mod words;
 mod writer;
 
 pub use certificate::Certificate;
 pub use endings::{a_passing_certificate_tells_the_ending, passing_values_are_in_lowest_terms};
-pub use fault::CertFault;
 pub use laws::{
     different_certificates_have_different_texts,
     different_well_formed_certificates_have_different_texts, passing_certificates_are_well_formed,
 };
-pub use reader::read;
-pub use writer::write;
+pub use writer::{claimed, write};

@@ -1,0 +1,14 @@
+mod Cuts
+mod Decoded
+mod EmptyRead
+mod EntryForms
+mod Moved
+mod NextLines
+mod PolicyRead
+mod Positions
+mod Quotients
+mod RefuteRead
+mod RowOrder
+mod RowsSaid
+mod TreesRead
+mod WordCuts
