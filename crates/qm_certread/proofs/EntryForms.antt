@@ -24,7 +24,7 @@ use Rattle.qm_certread.proofs.RowOrder.{both, is_counting_by, counting_some}
 
 -- ---- multipliers
 
-typed_by : {V A : Type 0} (as_typed : V → Option A) (found : Option V) (a : A) → of_type as_typed found ≡ Ok a → (v : V) × (found ≡ Some v) × (as_typed v ≡ Some a)
+pub typed_by : {V A : Type 0} (as_typed : V → Option A) (found : Option V) (a : A) → of_type as_typed found ≡ Ok a → (v : V) × (found ≡ Some v) × (as_typed v ≡ Some a)
 typed_by {V} {A} as_typed None a e = absurd cc
 typed_by {V} {A} as_typed (Some v) a e =
     elim (as_typed v) as (λ (o : Option A). as_typed v ≡ o → (elim o as (λ _. Said A) [ None ↦ Err rule.Number | Some b ↦ Ok b ]) ≡ Ok a → (w : V) × (Some v ≡ Some w) × (as_typed w ≡ Some a)) [

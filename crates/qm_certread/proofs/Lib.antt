@@ -1,3 +1,4 @@
+mod BodyRead
 mod Cuts
 mod Decoded
 mod EmptyRead
@@ -11,4 +12,6 @@ mod RefuteRead
 mod RowOrder
 mod RowsSaid
 mod TreesRead
+mod WholeRead
 mod WordCuts
+mod WordForms

@@ -31,7 +31,7 @@ then_later m (Left l n) = ap (Left l) (omega arith)
 -- ---- one line
 
 -- what is due where a line says it: the verdict goes on behind it
-step_of : (P : Problem) (d : Due) (dues : List Due) (line next : List ℕ) (lines : List (List ℕ)) (node : Node) → said_at first_style P d (words_of line) ≡ Ok node
+pub step_of : (P : Problem) (d : Due) (dues : List Due) (line next : List ℕ) (lines : List (List ℕ)) (node : Node) → said_at first_style P d (words_of line) ≡ Ok node
     → form_of first_style P (d ∷ dues) (line ∷ next ∷ lines) ≡ (Fine 1) then form_of first_style P (after first_style d node ++ dues) (next ∷ lines)
 step_of P d dues line next lines node says =
     ap (λ (s : Said Node). elim s as (λ _. Verdict) [ Ok node ↦ (Fine 1) then form_of first_style P (after first_style d node ++ dues) (next ∷ lines) | Err r ↦ Broken (rule_of r) 0 ]) says

@@ -145,7 +145,7 @@ fraction_some word a e =
       | Some (x, y) ↦ λ is f. quotient_some word x y a (whole_of x) (natural_of y) (cut_parts 47 word x y is) refl refl f
     ] refl e
 
-as_fraction_is : (a : Fraction) → IsInRange a → as_fraction a ≡ Some a
+pub as_fraction_is : (a : Fraction) → IsInRange a → as_fraction a ≡ Some a
 as_fraction_is a h = rw (in_range a h) refl
 
 as_fraction_none : (a : Fraction) → ¬ IsInRange a → as_fraction a ≡ None

@@ -60,15 +60,19 @@ module _ (P : Problem) (text : List ℕ) where
       let there : Moves P text (after first_style d node ++ behind) nodes behind mid new = subst (λ ds. Moves P text (ds ++ behind) nodes behind mid new) (sym is) (h behind) in
       subst (λ ns. Moves P text (d ∷ behind) ns behind old new) (sym same) (mid, says, there)
 
-  -- one line after another
-  pub meets_then : (d : Due) (rest : List Due) (ns ms : List Node) (old mid new : Cursor) → Meets P text (d ∷ []) ns old mid → Meets P text rest ms mid new → Meets P text (d ∷ rest) (ns ++ ms) old new
-  meets_then d rest ns ms old mid new first second = λ behind. moves_then P text (d ∷ rest ++ behind) (rest ++ behind) behind ns ms old mid new (first (rest ++ behind)) (second behind)
+  -- one list of lines after another
+  pub meets_then : (ds es : List Due) (ns ms : List Node) (old mid new : Cursor) → Meets P text ds ns old mid → Meets P text es ms mid new → Meets P text (ds ++ es) (ns ++ ms) old new
+  meets_then ds es ns ms old mid new first second = λ behind.
+      subst (λ due. Moves P text due (ns ++ ms) behind old new) (sym (append_assoc ds es behind))
+      (moves_then P text (ds ++ (es ++ behind)) (es ++ behind) behind ns ms old mid new (first (es ++ behind)) (second behind))
 
-  pub fails_then : (d : Due) (rest : List Due) (ns : List Node) (old mid : Cursor) (e : CertFault) → Meets P text (d ∷ []) ns old mid → Fails P text rest mid e → Fails P text (d ∷ rest) old e
-  fails_then d rest ns old mid e first h = λ behind. fails_behind P text (d ∷ rest ++ behind) (rest ++ behind) ns old mid e (first (rest ++ behind)) (h behind)
+  pub fails_then : (ds es : List Due) (ns : List Node) (old mid : Cursor) (e : CertFault) → Meets P text ds ns old mid → Fails P text es mid e → Fails P text (ds ++ es) old e
+  fails_then ds es ns old mid e first h = λ behind.
+      subst (λ due. IsFault P text due old e) (sym (append_assoc ds es behind))
+      (fails_behind P text (ds ++ (es ++ behind)) (es ++ behind) ns old mid e (first (es ++ behind)) (h behind))
 
-  pub fails_first : (d : Due) (rest : List Due) (old : Cursor) (e : CertFault) → Fails P text (d ∷ []) old e → Fails P text (d ∷ rest) old e
-  fails_first d rest old e h = λ behind. h (rest ++ behind)
+  pub fails_first : (ds es : List Due) (old : Cursor) (e : CertFault) → Fails P text ds old e → Fails P text (ds ++ es) old e
+  fails_first ds es old e h = λ behind. subst (λ due. IsFault P text due old e) (sym (append_assoc ds es behind)) (h (es ++ behind))
 
   -- ---- parts
 

@@ -5,6 +5,7 @@ pub mod Dues
 pub mod Forms
 pub mod NodesOf
 pub mod ReadSteps
-pub mod ReadWhole
+pub mod Reading
 pub mod WordSteps
 pub mod SaidSteps
+pub mod Fits

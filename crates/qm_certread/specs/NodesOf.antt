@@ -83,12 +83,17 @@ refute_part_nodes = fold-RefutePart (List Node) (List Node) refute_step refute_p
 
 -- ---- certificates
 
--- a refutation of the whole game, and the end
-abbrev pub refuted_nodes : Refute → List Node
-refuted_nodes refute = Fixed refute_line ∷ refute_nodes refute ++ Fixed end_line ∷ []
+abbrev pub claim_of : Problem → Certificate → Node
+claim_of P (ending.Optimal value legal policy refute) = Optimal (claimed P.sense value)
+claim_of P (ending.Infeasible legal refute) = Infeasible
+claim_of P (ending.Empty tree) = NoPlay
+
+-- what stands between the first line and the last
+abbrev pub body_nodes : Style → Certificate → List Node
+body_nodes style (ending.Optimal value legal policy refute) =
+    Fixed (version_line style) ∷ Legal legal ∷ Fixed policy_line ∷ policy_nodes policy ++ Fixed refute_line ∷ refute_nodes refute
+body_nodes style (ending.Infeasible legal refute) = Fixed (version_line style) ∷ Legal legal ∷ Fixed refute_line ∷ refute_nodes refute
+body_nodes style (ending.Empty tree) = Fixed (version_line style) ∷ Fixed illegal_line ∷ empty_nodes tree
 
 abbrev pub nodes_of : Style → Problem → Certificate → List Node
-nodes_of style P (ending.Optimal value legal policy refute) =
-    Optimal (claimed P.sense value) ∷ Fixed (version_line style) ∷ Legal legal ∷ Fixed policy_line ∷ policy_nodes policy ++ refuted_nodes refute
-nodes_of style P (ending.Infeasible legal refute) = Infeasible ∷ Fixed (version_line style) ∷ Legal legal ∷ refuted_nodes refute
-nodes_of style P (ending.Empty tree) = NoPlay ∷ Fixed (version_line style) ∷ Fixed illegal_line ∷ empty_nodes tree ++ Fixed end_line ∷ []
+nodes_of style P certificate = claim_of P certificate ∷ body_nodes style certificate ++ Fixed end_line ∷ []

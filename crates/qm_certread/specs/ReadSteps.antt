@@ -11,11 +11,14 @@ use Rattle.qm_certread.specs.declared.fault.Misread.TheVariants as rule
 use Rattle.qm_certread.specs.declared.fault.Unread.{Unread}
 use Rattle.qm_certread.specs.declared.fault.Unread.TheVariants as unread
 use Rattle.qm_certfile.specs.Lines.{Line}
+use Rattle.qm_certread.specs.declared.said.Claim.{Claim}
+use Rattle.qm_certread.specs.declared.said.Claim.TheVariants as claim
 use Rattle.qm_certfile.specs.Styles.{first_style}
+use Rattle.qm_certfile.specs.CertificateLines.{version_line}
 use Rattle.qm_certread.specs.Pieces.{lines_of, words_of}
 use Rattle.qm_certread.specs.Spelling.{Said}
 use Rattle.qm_certread.specs.Nodes.{Node, Fixed}
-use Rattle.qm_certread.specs.Dues.{Due, Ranges, after, illegal_line, ranges}
+use Rattle.qm_certread.specs.Dues.{Due, Played, Said as DueLine, Policy, Empty, Refute, Ranges, after, illegal_line, policy_line, ranges, refute_line}
 use Rattle.qm_certread.specs.Forms.{form_of, is_line, said_at}
 
 -- a place of a text at which so many lines may have ended
@@ -80,6 +83,12 @@ IsFault P text dues cursor fault.Memory = Unit {0}
 
 abbrev pub Fails : Problem → List ℕ → List Due → Cursor → CertFault → Type 0
 Fails P text dues cursor e = (behind : List Due) → IsFault P text (dues ++ behind) cursor e
+
+-- what is due between the first line and the last
+abbrev pub body_dues : Claim → List Due
+body_dues (claim.Optimal value) = DueLine (version_line first_style) ∷ Played ∷ DueLine policy_line ∷ Policy 0 ∷ DueLine refute_line ∷ Refute 0 ∷ []
+body_dues claim.Infeasible = DueLine (version_line first_style) ∷ Played ∷ DueLine refute_line ∷ Refute 0 ∷ []
+body_dues claim.NoPlay = DueLine (version_line first_style) ∷ DueLine illegal_line ∷ Empty 0 ∷ []
 
 -- the fault of a line
 abbrev pub fault_at : Misread → ℕ → CertFault

@@ -1,11 +1,14 @@
-ghost use Rattle.std.specs.Prelude.{◌≤◌, ◌<◌, ◌^◌, ◌∷◌, [], length, IfOk, IfErr, OnOk};
+ghost use Rattle.std.specs.Prelude.{◌≡◌, ◌≤◌, ◌<◌, ◌^◌, ◌∷◌, [], length, IfOk, IfErr, OnOk};
 ghost use Rattle.qm_certfile.specs.CertificateLines.{version_line};
-ghost use Rattle.qm_certread.specs.Dues.{Played, Policy, Refute, Said, policy_line, refute_line};
+ghost use Rattle.qm_certread.specs.Dues.{Claimed, Played, Policy, Refute, Said, policy_line, refute_line};
 ghost use Rattle.qm_certread.specs.Nodes.{Fixed, Legal};
-ghost use Rattle.qm_certread.specs.NodesOf.{policy_nodes, refute_nodes};
+ghost use Rattle.qm_certread.specs.NodesOf.{body_nodes, claim_of, nodes_of, policy_nodes, refute_nodes};
 ghost use Rattle.qm_certfile.specs.Styles.{first_style};
-ghost use Rattle.qm_certread.specs.ReadSteps.{Fails, IsIn, Meets};
-ghost use Rattle.qm_certread.specs.ReadWhole.{IsRead, body_dues, body_nodes};
+ghost use Rattle.qm_certread.specs.Pieces.{lines_of};
+ghost use Rattle.qm_certread.specs.Forms.{certificate_form};
+ghost use Rattle.qm_certread.specs.Reading.{AreSaid, IsFirstFault};
+ghost use Rattle.qm_certread.specs.ReadSteps.{Fails, IsIn, Meets, body_dues};
+ghost use Rattle.qm_certread.specs.SaidSteps.{claim_node};
 
 use crate::cursor::Cursor;
 use crate::empty_reader::read_empty;
@@ -24,7 +27,8 @@ use std::alloc::Global;
 /// The certificate of the game that the text is. `Text` and `Number` name the first line that isn't in form.
 pub fn read(alloc: Global, text: &[u8], game: &Game) -> Result<Certificate, CertFault>
     requires { length text.now < 2 ^ 31 }
-    ensures { IsRead game.now text.now result }
+    ensures form { IsFirstFault (certificate_form first_style game.now text.now) result }
+    ensures said { IfOk result (λ certificate. AreSaid first_style game.now (Claimed ∷ []) (nodes_of first_style game.now certificate) (lines_of text.now)) }
 {
     let problem = game.problem();
     let mut cursor = Cursor { at: 0, line: 1 };
@@ -46,7 +50,8 @@ fn read_body(
     requires wholes { problem.now.wholes ≤ length problem.now.vars }
     requires place { IsIn text.now cursor.old }
     ensures place { OnOk result (IsIn text.now cursor.new) }
-    ensures ok { IfOk result (λ certificate. Meets problem.now text.now (body_dues claim) (body_nodes certificate) cursor.old cursor.new) }
+    ensures claim { IfOk result (λ certificate. claim_of problem.now certificate ≡ claim_node claim) }
+    ensures ok { IfOk result (λ certificate. Meets problem.now text.now (body_dues claim) (body_nodes first_style certificate) cursor.old cursor.new) }
     ensures err { IfErr result (λ e. Fails problem.now text.now (body_dues claim) cursor.old e) }
 {
     match claim {
