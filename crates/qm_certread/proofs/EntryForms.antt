@@ -60,7 +60,7 @@ above_zero word (pos n) h minus first =
     (n - 1, ap pos (omega arith))
 above_zero word (negsuc n) h minus first = absurd (minus (ap (λ w. get_or w 0 0) h.1))
 
-first_above : (word above below : List ℕ) (z : ℤ) → word ≡ above ++ 47 ∷ below → SpellsWhole above z → get_or word 0 0 ≡ get_or above 0 0
+pub first_above : (word above below : List ℕ) (z : ℤ) → word ≡ above ++ 47 ∷ below → SpellsWhole above z → get_or word 0 0 ≡ get_or above 0 0
 first_above word [] below (pos n) parts h = absurd (let no : is_plain_numeral [] ≡ true = h.0 in cc)
 first_above word [] below (negsuc n) parts h = absurd (let no : [] ≡ 45 ∷ h.0 = h.1 in cc)
 first_above word (b ∷ above) below z parts h = ap (λ w. get_or w 0 0) parts
@@ -74,7 +74,7 @@ num_above word a (inr (q, k)) minus first =
 positive_by : (e : Entry) (n : ℕ) → 0 < e.by.den → e.by.num ≡ pos (suc n) → IsPositive e
 positive_by e n den is = (den, subst (λ (z : ℤ). (pos 0 *ℤ pos e.by.den) <ℤ (z *ℤ pos 1)) (sym is) (omega (arith, ints)))
 
-neither : (t : Bool) (word : List ℕ) (a : Fraction) → (get_or word 0 0 == 45 || get_or word 0 0 == 48) ≡ t → (if t then Err rule.Text else fraction_word word) ≡ Ok a
+pub neither : (t : Bool) (word : List ℕ) (a : Fraction) → (get_or word 0 0 == 45 || get_or word 0 0 == 48) ≡ t → (if t then Err rule.Text else fraction_word word) ≡ Ok a
     → (get_or word 0 0 ≢ 45) × (get_or word 0 0 ≢ 48) × (fraction_word word ≡ Ok a)
 neither true word a is e = absurd cc
 neither false word a is e = (λ h. absurd (grind (arith, nat_tests)), λ h. absurd (grind (arith, nat_tests)), e)
@@ -210,7 +210,7 @@ one_frac e h = All-cons (λ (e : Entry). IsFrac e.by) e [] h (All-nil (λ (e : E
 more_frac : (e : Entry) (es : List Entry) → IsFrac e.by → All (λ e. IsFrac e.by) es → All (λ e. IsFrac e.by) (e ∷ es)
 more_frac e es h rest = All-cons (λ (e : Entry). IsFrac e.by) e es h rest
 
-entries_told : (words : List Word) (es : List Entry) → each entry_said words ≡ Ok es → are_in_order words ≡ true → AreEntries es × All (λ e. IsFrac e.by) es
+pub entries_told : (words : List Word) (es : List Entry) → each entry_said words ≡ Ok es → are_in_order words ≡ true → AreEntries es × All (λ e. IsFrac e.by) es
 entries_told [] es e order = let none : [] ≡ es = cc in subst (λ l. AreEntries l × All (λ e. IsFrac e.by) l) none (tt, λ k d h. absurd (omega arith))
 entries_told (word ∷ []) es e order =
     let first = each_ok word [] (entry_said word) (each entry_said []) es e in

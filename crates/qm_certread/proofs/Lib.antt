@@ -14,4 +14,3 @@ mod RowsSaid
 mod TreesRead
 mod WholeRead
 mod WordCuts
-mod WordForms

@@ -86,7 +86,7 @@ before_is (x ∷ xs) (y ∷ ys) all every len =
 pub digits_of_counting : (ds : List ℕ) → is_counting ds ≡ true → are_digits ds ≡ true
 digits_of_counting ds h = (both (nat_lt 0 (length ds)) (are_digits ds) (both (is_numeral ds) (not (get_or ds 0 0 == 48)) h).0).1
 
-first_of_counting : (ds : List ℕ) → is_counting ds ≡ true → get_or ds 0 0 ≢ 48
+pub first_of_counting : (ds : List ℕ) → is_counting ds ≡ true → get_or ds 0 0 ≢ 48
 first_of_counting ds h = let first : not (get_or ds 0 0 == 48) ≡ true = (both (is_numeral ds) (not (get_or ds 0 0 == 48)) h).1 in grind (arith, nat_tests)
 
 value_low : (d : ℕ) (ds : List ℕ) → is_counting (d ∷ ds) ≡ true → 10 ^ length ds ≤ numeral_value (d ∷ ds)
@@ -159,7 +159,7 @@ plain_of_counting ds h =
     let pair = both (is_numeral ds) (not (get_or ds 0 0 == 48)) h in
     grind (arith, pair.0, pair.1)
 
-zero_of_plain : (ds : List ℕ) → is_plain_numeral ds ≡ true → is_counting ds ≡ false → numeral_value ds ≡ 0
+pub zero_of_plain : (ds : List ℕ) → is_plain_numeral ds ≡ true → is_counting ds ≡ false → numeral_value ds ≡ 0
 unfolding numeral_value
 zero_of_plain [] plain h = refl
 zero_of_plain (d ∷ []) plain h =

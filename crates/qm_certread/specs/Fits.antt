@@ -12,13 +12,15 @@ use Rattle.qm_model.specs.declared.variable.Var.{Var}
 use Rattle.qm_model.specs.declared.game.Problem.{Problem}
 use Rattle.qm_model.specs.Plays.{is_universal, whole_vars}
 use Rattle.qm_model.specs.Points.{continuous_vars}
+use Rattle.qm_trees.specs.declared.combination.Entry.{Entry}
 use Rattle.qm_trees.specs.Picks.{universal_count}
 use Rattle.qm_trees.specs.Entries.{AreEntries, Combination}
 use Rattle.qm_certfile.specs.declared.certificate.Certificate.{Certificate}
 use Rattle.qm_certfile.specs.Lines.{Line}
+use Rattle.qm_certfile.specs.Numbers.{number_of_row}
 use Rattle.qm_certfile.specs.Styles.{first_style}
 use Rattle.qm_certfile.specs.TreeLines.{close_line}
-use Rattle.qm_certfile.specs.WellFormed.{IsEntry, IsWhole}
+use Rattle.qm_certfile.specs.WellFormed.{IsWhole}
 use Rattle.qm_certread.specs.Nodes.{Node, Fixed, Infeasible, NoPlay, Optimal, Legal, Choose, Answer, Leaf, Split, Over, Pick, Close, Part}
 use Rattle.qm_certread.specs.Dues.{Due, Claimed, Played, Policy, Below, Empty, Refute, Ranges, after, empty_line, illegal_line, infeasible_line}
 use Rattle.qm_certread.specs.Dues as due
@@ -51,9 +53,13 @@ IsCount n = n < 2 ^ 32
 abbrev pub AreValues : ℕ → List ℤ → Type 0
 AreValues n values = (length values ≡ n) × All IsWhole values
 
+-- a row whose number, from 1, is a count, and a fraction of the program
+abbrev pub IsRowEntry : Entry → Type 0
+IsRowEntry e = IsCount (number_of_row e.row) × IsFrac e.by
+
 -- entries in the order of their rows, with multipliers above 0
 abbrev pub IsCombination : Combination → Type 0
-IsCombination combo = AreEntries combo.entries × All IsEntry combo.entries
+IsCombination combo = AreEntries combo.entries × All IsRowEntry combo.entries
 
 -- a universal variable, from this position on
 abbrev pub IsSplit : Problem → ℕ → ℕ → Type 0
