@@ -1,10 +1,10 @@
 -- A whole text that is read.
 use Rattle.std.proofs.Common.{◌≡◌, ℕ, suc, ◌<◌, Bool, true, false, List, [], ◌∷◌, ◌++◌, length, drop, Result, Ok, Err, refl, sym, ap, ap₂, ◌∙◌, subst, arith}
-use Rattle.std.specs.Prelude.{IsErrAnd, ◌==◌, if◌then◌else◌}
+use Rattle.std.specs.Prelude.{IfErr, IfOk, IsErrAnd, ◌==◌, if◌then◌else◌}
 use Rattle.std.specs.List.{slice_split, onto_first}
 use Rattle.std.proofs.lemmas.List.{drop_all, length-drop}
 use Rattle.std.proofs.lemmas.List.Splits.{slice_split-cons_yes, slice_split-cons_no}
-use Rattle.std.proofs.lemmas.Result.{err_from_is_err_and}
+use Rattle.std.proofs.lemmas.Result.{IfErr-weaker, err_from_is_err_and}
 use Rattle.memchr.specs.Find.{is_byte}
 use Rattle.qm_model.specs.declared.game.Problem.{Problem}
 use Rattle.qm_trees.specs.declared.rule.Rule.TheVariants as broken
@@ -22,7 +22,7 @@ use Rattle.qm_certread.specs.Dues.{Due, Claimed, Said as DueLine, after, end_lin
 use Rattle.qm_certread.specs.Forms.{certificate_form, claim_said, form_of, is_nothing}
 use Rattle.qm_certread.specs.NodesOf.{body_nodes, claim_of, nodes_of}
 use Rattle.qm_certread.specs.Reading.{AreSaid, IsFirstFault}
-use Rattle.qm_certread.specs.ReadSteps.{Fails, IsFault, Meets, Moves, NextFails, NextSays, body_dues, fixed_said, form_at, lines_at}
+use Rattle.qm_certread.specs.ReadSteps.{Fails, IsFault, IsLast, Meets, Moves, NextFails, NextSays, body_dues, fixed_said, form_at, lines_at}
 use Rattle.qm_certread.specs.SaidSteps.{claim_node}
 use Rattle.qm_certread.proofs.WordCuts.{some_piece}
 use Rattle.qm_certread.proofs.Moved.{fails_behind, moves_then, step_of}
@@ -39,6 +39,7 @@ said_form P (d ∷ dues) [] (line ∷ lines) h = absurd h
 said_form P (d ∷ dues) (node ∷ nodes) (line ∷ []) h = absurd h
 said_form P (d ∷ dues) (node ∷ nodes) (line ∷ next ∷ lines) (says, rest) =
     step_of P d dues line next lines node says ∙ ap (λ v. (Fine 1) then v) (said_form P (after first_style d node ++ dues) nodes (next ∷ lines) rest)
+    ∙ ap Fine (omega arith)
 
 -- ---- where nothing is due and the text goes on
 
@@ -89,28 +90,26 @@ module _ (P : Problem) (text : List ℕ) where
   abbrev Begins : Claim → Cursor → Type 0
   Begins said mid = NextSays text claim_said start mid (claim_node said)
 
-  pub body_moves : (said : Claim) (nodes : List Node) (mid body : Cursor) → Begins said mid → Meets P text (body_dues said) nodes mid body
+  body_moves : (said : Claim) (nodes : List Node) (mid body : Cursor) → Begins said mid → Meets P text (body_dues said) nodes mid body
       → Moves P text (Claimed ∷ []) (claim_node said ∷ nodes) (DueLine end_line ∷ []) start body
   body_moves said nodes mid body says meets =
       (mid, says, subst (λ ds. Moves P text ds nodes (DueLine end_line ∷ []) mid body) (sym (claim_dues said)) (meets (DueLine end_line ∷ [])))
 
-  abbrev Ends : Cursor → Cursor → Type 0
-  Ends body end = NextSays text (fixed_said end_line) body end (Fixed end_line)
-
-  pub whole_moves : (said : Claim) (nodes : List Node) (mid body end : Cursor) → Begins said mid → Meets P text (body_dues said) nodes mid body → Ends body end
+  whole_moves : (said : Claim) (nodes : List Node) (mid body end : Cursor) → Begins said mid → Meets P text (body_dues said) nodes mid body → NextSays text (fixed_said end_line) body end (Fixed end_line)
       → Moves P text (Claimed ∷ []) (claim_node said ∷ nodes ++ Fixed end_line ∷ []) [] start end
   whole_moves said nodes mid body end says meets last =
       moves_then P text (Claimed ∷ []) (DueLine end_line ∷ []) [] (claim_node said ∷ nodes) (Fixed end_line ∷ []) start body end (body_moves said nodes mid body says meets) (end, last, (refl, refl))
 
-  pub whole_said : (said : Claim) (certificate : Certificate) (mid body end : Cursor) → Begins said mid → claim_of P certificate ≡ claim_node said
-      → Meets P text (body_dues said) (body_nodes first_style certificate) mid body → Ends body end → end.at ≡ length text
-      → AreSaid first_style P (Claimed ∷ []) (nodes_of first_style P certificate) (lines_of text)
-  whole_said said certificate mid body end says same meets last at =
+  abbrev WholeSaid : Certificate → Type 0
+  WholeSaid certificate = AreSaid first_style P (Claimed ∷ []) (nodes_of first_style P certificate) (lines_of text)
+
+  whole_said : (said : Claim) (certificate : Certificate) (mid body : Cursor) → Begins said mid → claim_of P certificate ≡ claim_node said
+      → Meets P text (body_dues said) (body_nodes first_style certificate) mid body → IsLast text body → WholeSaid certificate
+  whole_said said certificate mid body says same meets (end, last, at) =
       subst (λ n. AreSaid first_style P (Claimed ∷ []) (n ∷ body_nodes first_style certificate ++ Fixed end_line ∷ []) (lines_of text)) (sym same)
       (moves_said (Claimed ∷ []) (claim_node said ∷ body_nodes first_style certificate ++ Fixed end_line ∷ []) start end (whole_moves said (body_nodes first_style certificate) mid body end says meets last) at)
 
-  pub said_whole : (certificate : Certificate) → AreSaid first_style P (Claimed ∷ []) (nodes_of first_style P certificate) (lines_of text)
-      → IsFirstFault (certificate_form first_style P text) (Ok certificate)
+  said_whole : (certificate : Certificate) → WholeSaid certificate → IsFirstFault (certificate_form first_style P text) (Ok certificate)
   unfolding certificate_form
   said_whole certificate h = (length (nodes_of first_style P certificate), said_form P (Claimed ∷ []) (nodes_of first_style P certificate) (lines_of text) h)
 
@@ -141,16 +140,30 @@ module _ (P : Problem) (text : List ℕ) where
   body_fails said mid r e out says h =
       first_out r e out (below_fails P text Claimed (claim_node said) (after first_style Claimed (claim_node said)) start mid e says refl (more_fails said mid e h) [])
 
-  pub end_fails : (said : Claim) (nodes : List Node) (mid body : Cursor) (r : Result Certificate CertFault) (e : CertFault) → IsErrAnd r (λ y. y ≡ e) → Begins said mid
-      → Meets P text (body_dues said) nodes mid body → NextFails text (fixed_said end_line) body e → IsFirstFault (certificate_form first_style P text) r
-  end_fails said nodes mid body r e out says meets h =
-      first_out r e out (fails_behind P text (Claimed ∷ []) (DueLine end_line ∷ []) (claim_node said ∷ nodes) start body e (body_moves said nodes mid body says meets)
-      (node_fails P text (fixed_said end_line) (DueLine end_line) body e (λ words. refl) h []))
+  -- ---- the end
 
-  more_text : (end : Cursor) (e : CertFault) → e ≡ fault.Text end.line → end.at < length text → IsFault P text [] end e
-  more_text end e is h = subst (IsFault P text [] end) (sym is) (goes_on end h)
+  -- what is answered behind the body
+  pub end_result : (said : Claim) (certificate : Certificate) (mid body : Cursor) (r : Result Certificate CertFault) → Begins said mid → claim_of P certificate ≡ claim_node said
+      → Meets P text (body_dues said) (body_nodes first_style certificate) mid body
+      → IfOk r (λ whole. (whole ≡ certificate) × IsLast text body) → IfErr r (λ e. (P : Problem) → IsFault P text (DueLine end_line ∷ []) body e)
+      → IsFirstFault (certificate_form first_style P text) r × IfOk r WholeSaid
+  end_result said certificate mid body (Ok whole) says same meets (is, last) fails =
+      let all = subst WholeSaid (sym is) (whole_said said certificate mid body says same meets last) in
+      (said_whole whole all, all)
+  end_result said certificate mid body (Err e) says same meets ok fails =
+      let nodes = body_nodes first_style certificate in
+      (first_fault e (fails_behind P text (Claimed ∷ []) (DueLine end_line ∷ []) (claim_node said ∷ nodes) start body e (body_moves said nodes mid body says meets) (fails P)), tt)
 
-  pub text_fails : (said : Claim) (nodes : List Node) (mid body end : Cursor) (r : Result Certificate CertFault) (e : CertFault) → IsErrAnd r (λ y. y ≡ e) → Begins said mid
-      → Meets P text (body_dues said) nodes mid body → Ends body end → e ≡ fault.Text end.line → end.at < length text → IsFirstFault (certificate_form first_style P text) r
-  text_fails said nodes mid body end r e out says meets last is h =
-      first_out r e out (fails_behind P text (Claimed ∷ []) [] (claim_node said ∷ nodes ++ Fixed end_line ∷ []) start end e (whole_moves said nodes mid body end says meets last) (more_text end e is h))
+-- a last line that isn't there
+pub last_fails : (text : List ℕ) (old : Cursor) (e : CertFault) → NextFails text (fixed_said end_line) old e → (P : Problem) → IsFault P text (DueLine end_line ∷ []) old e
+last_fails text old e h = λ P. node_fails P text (fixed_said end_line) (DueLine end_line) old e (λ words. refl) h []
+
+more_text : (P : Problem) (text : List ℕ) (end : Cursor) (e : CertFault) → e ≡ fault.Text end.line → end.at < length text → IsFault P text [] end e
+more_text P text end e is h = subst (IsFault P text [] end) (sym is) (goes_on P text end h)
+
+-- and more text behind it
+pub text_fails : (text : List ℕ) (old end : Cursor) (r : Result (Unit {0}) CertFault) → NextSays text (fixed_said end_line) old end (Fixed end_line)
+    → IfErr r (λ e. (e ≡ fault.Text end.line) × (end.at < length text)) → IfErr r (λ e. (P : Problem) → IsFault P text (DueLine end_line ∷ []) old e)
+text_fails text old end r says h =
+    IfErr-weaker r (λ e. (e ≡ fault.Text end.line) × (end.at < length text)) (λ e. (P : Problem) → IsFault P text (DueLine end_line ∷ []) old e)
+    (λ e f P. fails_behind P text (DueLine end_line ∷ []) [] (Fixed end_line ∷ []) old end e (end, says, (refl, refl)) (more_text P text end e f.0 f.1)) h

@@ -61,35 +61,42 @@ IsRowEntry e = IsCount (number_of_row e.row) × IsFrac e.by
 abbrev pub IsCombination : Combination → Type 0
 IsCombination combo = AreEntries combo.entries × All IsRowEntry combo.entries
 
+-- the same, without the objective
+abbrev pub IsPlain : Combination → Type 0
+IsPlain combo = (combo.objective ≡ false) × IsCombination combo
+
 -- a universal variable, from this position on
 abbrev pub IsSplit : Problem → ℕ → ℕ → Type 0
 IsSplit P least var = (x : Var) × (slice_get (whole_vars P) var ≡ Some x) × (is_universal x ≡ true) × (least ≤ var)
 
 -- ---- what may stand where it is due
 
+-- a node of this kind, of something that is so
+abbrev pub IsOne : {A : Type 0} → (A → Node) → (A → Type 0) → Node → Type 0
+IsOne {A} kind Is node = (a : A) × (kind a ≡ node) × Is a
+
+-- a point of the continuous variables
+abbrev pub IsPoint : Problem → List Fraction → Type 0
+IsPoint P point = (length point ≡ length (continuous_vars P)) × All IsFrac point
+
 -- by who sets the next variable
 abbrev pub FitsMove : Problem → Option Player → Node → Type 0
-FitsMove P None (Leaf point) = (length point ≡ length (continuous_vars P)) × All IsFrac point
-FitsMove P (Some Exists) (Choose value) = IsWhole value
-FitsMove P (Some Universal) (Answer count) = IsCount count
-FitsMove P player node = ⊥
+FitsMove P None node = IsOne Leaf (IsPoint P) node
+FitsMove P (Some Exists) node = IsOne Choose IsWhole node
+FitsMove P (Some Universal) node = IsOne Answer IsCount node
 
 abbrev pub FitsAt : Problem → Due → Node → Type 0
-FitsAt P Claimed (Optimal value) = IsFrac value
-FitsAt P Claimed Infeasible = Unit {0}
-FitsAt P Claimed NoPlay = Unit {0}
-FitsAt P Played (Legal values) = AreValues (universal_count (whole_vars P)) values
-FitsAt P (due.Said line) (Fixed other) = other ≡ line
+FitsAt P Claimed node = (Infeasible ≡ node) ⊎ ((NoPlay ≡ node) ⊎ IsOne Optimal IsFrac node)
+FitsAt P Played node = IsOne Legal (AreValues (universal_count (whole_vars P))) node
+FitsAt P (due.Said line) node = Fixed line ≡ node
 FitsAt P (Policy depth) node = FitsMove P (player_at P depth) node
-FitsAt P (Below depth) node = (node ≡ Fixed illegal_line) ⊎ FitsMove P (player_at P depth) node
-FitsAt P (Empty least) (Split var count) = IsSplit P least var × IsCount count
-FitsAt P (Empty least) (Close combo) = (combo.objective ≡ false) × IsCombination combo
-FitsAt P (Refute depth) (Over count) = (depth < length (whole_vars P)) × IsCount count
-FitsAt P (Refute depth) (Pick value completion) =
-    (player_at P depth ≡ Some Universal) × IsWhole value × AreValues (universal_count (drop (depth + 1) (whole_vars P))) completion
-FitsAt P (Refute depth) (Close combo) = IsCombination combo
-FitsAt P (Ranges n below) (Part range) = IsWhole range.low × IsWhole range.high
-FitsAt P d node = ⊥
+FitsAt P (Below depth) node = (Fixed illegal_line ≡ node) ⊎ FitsMove P (player_at P depth) node
+FitsAt P (Empty least) node = ((var : ℕ) × IsSplit P least var × IsOne (Split var) IsCount node) ⊎ IsOne Close IsPlain node
+FitsAt P (Refute depth) node =
+    ((depth < length (whole_vars P)) × IsOne Over IsCount node)
+    ⊎ (((player_at P depth ≡ Some Universal) × ((value : ℤ) × IsWhole value × IsOne (Pick value) (AreValues (universal_count (drop (depth + 1) (whole_vars P)))) node))
+    ⊎ IsOne Close IsCombination node)
+FitsAt P (Ranges n below) node = IsOne Part (λ range. IsWhole range.low × IsWhole range.high) node
 
 -- one node after another, until nothing is due
 abbrev pub AreFit : Problem → List Due → List Node → Type 0

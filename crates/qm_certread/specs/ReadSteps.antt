@@ -18,7 +18,7 @@ use Rattle.qm_certfile.specs.CertificateLines.{version_line}
 use Rattle.qm_certread.specs.Pieces.{lines_of, words_of}
 use Rattle.qm_certread.specs.Spelling.{Said}
 use Rattle.qm_certread.specs.Nodes.{Node, Fixed}
-use Rattle.qm_certread.specs.Dues.{Due, Played, Said as DueLine, Policy, Empty, Refute, Ranges, after, illegal_line, policy_line, ranges, refute_line}
+use Rattle.qm_certread.specs.Dues.{Due, Played, Said as DueLine, Policy, Empty, Refute, Ranges, after, end_line, illegal_line, policy_line, ranges, refute_line}
 use Rattle.qm_certread.specs.Forms.{form_of, is_line, said_at}
 
 -- a place of a text at which so many lines may have ended
@@ -90,6 +90,14 @@ body_dues (claim.Optimal value) = DueLine (version_line first_style) ∷ Played 
 body_dues claim.Infeasible = DueLine (version_line first_style) ∷ Played ∷ DueLine refute_line ∷ Refute 0 ∷ []
 body_dues claim.NoPlay = DueLine (version_line first_style) ∷ DueLine illegal_line ∷ Empty 0 ∷ []
 
+-- that this line stands there
+abbrev pub fixed_said : Line → Line → Said Node
+fixed_said line words = if is_line line words then Ok (Fixed line) else Err rule.Text
+
+-- the last line stands there, and the text ends behind it
+abbrev pub IsLast : List ℕ → Cursor → Type 0
+IsLast text cursor = (end : Cursor) × NextSays text (fixed_said end_line) cursor end (Fixed end_line) × (end.at ≡ length text)
+
 -- the fault of a line
 abbrev pub fault_at : Misread → ℕ → CertFault
 fault_at rule.Text n = fault.Text n
@@ -98,10 +106,6 @@ fault_at rule.Number n = fault.Number n
 abbrev pub unread_at : Unread → ℕ → CertFault
 unread_at (unread.Misread m) n = fault_at m n
 unread_at unread.Memory n = fault.Memory
-
--- that this line stands there
-abbrev pub fixed_said : Line → Line → Said Node
-fixed_said line words = if is_line line words then Ok (Fixed line) else Err rule.Text
 
 -- no line `illegal` stands there
 abbrev pub IsOther : List ℕ → Cursor → Type 0

@@ -1,13 +1,14 @@
 ghost use Rattle.std.specs.Prelude.{◌≡◌, ◌≤◌, ◌<◌, ◌^◌, ◌∷◌, [], length, IfOk, IfErr, OnOk};
+ghost use Rattle.qm_model.specs.declared.game.Problem.{Problem};
 ghost use Rattle.qm_certfile.specs.CertificateLines.{version_line};
-ghost use Rattle.qm_certread.specs.Dues.{Claimed, Played, Policy, Refute, Said, policy_line, refute_line};
+ghost use Rattle.qm_certread.specs.Dues.{Claimed, Played, Policy, Refute, Said, end_line, policy_line, refute_line};
 ghost use Rattle.qm_certread.specs.Nodes.{Fixed, Legal};
 ghost use Rattle.qm_certread.specs.NodesOf.{body_nodes, claim_of, nodes_of, policy_nodes, refute_nodes};
 ghost use Rattle.qm_certfile.specs.Styles.{first_style};
 ghost use Rattle.qm_certread.specs.Pieces.{lines_of};
 ghost use Rattle.qm_certread.specs.Forms.{certificate_form};
 ghost use Rattle.qm_certread.specs.Reading.{AreSaid, IsFirstFault};
-ghost use Rattle.qm_certread.specs.ReadSteps.{Fails, IsIn, Meets, body_dues};
+ghost use Rattle.qm_certread.specs.ReadSteps.{Fails, IsFault, IsIn, IsLast, Meets, body_dues};
 ghost use Rattle.qm_certread.specs.SaidSteps.{claim_node};
 
 use crate::cursor::Cursor;
@@ -34,9 +35,28 @@ pub fn read(alloc: Global, text: &[u8], game: &Game) -> Result<Certificate, Cert
     let mut cursor = Cursor { at: 0, line: 1 };
     let claim = next_claim(text, &mut cursor)?;
     let certificate = read_body(alloc, problem, claim, text, &mut cursor)?;
-    next_alone(b"end", text, &mut cursor)?;
-    text_end(text, cursor)?;
+    ended(certificate, text, cursor)
+}
+
+/// The certificate, where the last line is next and the text ends behind it.
+fn ended(certificate: Certificate, text: &[u8], cursor: Cursor) -> Result<Certificate, CertFault>
+    requires { IsIn text.now cursor }
+    ensures ok { IfOk result (λ whole. (whole ≡ certificate) × IsLast text.now cursor) }
+    ensures err { IfErr result (λ e. (P : Problem) → IsFault P text.now (Said end_line ∷ []) cursor e) }
+{
+    read_end(text, cursor)?;
     Ok(certificate)
+}
+
+/// Takes the last line, behind which the text ends.
+fn read_end(text: &[u8], cursor: Cursor) -> Result<(), CertFault>
+    requires { IsIn text.now cursor }
+    ensures ok { OnOk result (IsLast text.now cursor) }
+    ensures err { IfErr result (λ e. (P : Problem) → IsFault P text.now (Said end_line ∷ []) cursor e) }
+{
+    let mut cursor = cursor;
+    next_alone(b"end", text, &mut cursor)?;
+    text_end(text, cursor)
 }
 
 /// Reads what stands between the first line and the last.
