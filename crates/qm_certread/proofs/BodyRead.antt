@@ -1,6 +1,6 @@
 -- What is read between the first line and the last.
-use Rattle.std.proofs.Common.{◌≡◌, ℕ, List, [], ◌∷◌, ◌++◌, length, ℤ, Result, Ok, Err, refl, sym, ap, ◌∙◌, subst}
-use Rattle.std.specs.Prelude.{IfErr, codes, neg_ℤ}
+use Rattle.std.proofs.Common.{◌≡◌, ℕ, List, [], ◌∷◌, ◌++◌, ℤ, Result, refl, subst}
+use Rattle.std.specs.Prelude.{IfErr, codes}
 use Rattle.std.proofs.Math.IntN.{neg_ℤ-neg_ℤ}
 use Rattle.std.proofs.lemmas.Result.{IfErr-weaker}
 use Rattle.qm_math.specs.Fraction.{Fraction}

@@ -1,5 +1,5 @@
 -- Empty trees that are read.
-use Rattle.std.proofs.Common.{◌≡◌, ℕ, zero, suc, ◌+◌, ◌<◌, ◌≤◌, Bool, true, false, List, [], ◌∷◌, ◌++◌, length, map, ℤ, pos, negsuc, Option, None, Some, Result, Ok, Err, refl, sym, ap, ap₂, ◌∙◌, subst, arith}
+use Rattle.std.proofs.Common.{◌≡◌, ℕ, zero, suc, ◌<◌, ◌≤◌, Bool, true, false, List, [], ◌∷◌, length, map, ℤ, pos, negsuc, Option, None, Some, Ok, Err, refl, sym, ap, ◌∙◌, arith}
 use Rattle.std.specs.Prelude.{codes, ◌&&◌, nat_le, slice_get, if◌then◌else◌}
 use Rattle.std.proofs.lemmas.Bool.Decides.{nat_tests}
 use Rattle.std.proofs.lemmas.List.{length-map}
@@ -12,7 +12,6 @@ use Rattle.qm_trees.specs.declared.empty.Empty.TheOpen as none
 use Rattle.qm_trees.specs.declared.empty.Empty.TheFolds.{fold-roll-Empty}
 use Rattle.qm_trees.specs.declared.empty.EmptyPart.{EmptyPart}
 use Rattle.qm_trees.specs.Entries.{Combination}
-use Rattle.qm_certread.specs.declared.fault.Misread.{Misread}
 use Rattle.qm_certread.specs.declared.fault.Misread.TheVariants as rule
 use Rattle.qm_certfile.specs.Lines.{Line}
 use Rattle.qm_certread.specs.Spelling.{Said, count_word, whole_of, with_both, with_entries}

@@ -1,24 +1,22 @@
 -- Entries that words say are in form.
-use Rattle.std.proofs.Common.{◌≡◌, ◌≢◌, ℕ, zero, suc, ◌+◌, ◌-◌, ◌*◌, ◌<◌, ◌≤◌, ◌^◌, Bool, true, false, not, ◌&&◌, List, [], ◌∷◌, ◌++◌, length, get_or, ℤ, pos, negsuc, ◌*ℤ◌, ◌<ℤ◌, unsigned_abs, Option, None, Some, Result, Ok, Err, IsTrue, refl, sym, ap, ap₂, ◌∙◌, subst, inl, inr, arith}
+use Rattle.std.proofs.Common.{◌≡◌, ◌≢◌, ℕ, zero, suc, ◌-◌, ◌<◌, ◌^◌, Bool, true, false, ◌&&◌, List, [], ◌∷◌, ◌++◌, get_or, ℤ, pos, negsuc, ◌*ℤ◌, ◌<ℤ◌, unsigned_abs, Option, None, Some, Ok, Err, refl, sym, ap, ap₂, ◌∙◌, subst, inl, inr, arith}
 use Rattle.std.specs.Prelude.{All, ◌||◌, ◌==◌, ◌⊎◌, nat_lt, int_lt, if◌then◌else◌}
 use Rattle.std.specs.Option.{option_map}
 use Rattle.std.proofs.lemmas.Bool.Decides.{nat_tests}
 use Rattle.std.proofs.lemmas.List.Elements.{All-cons, All-nil}
 use Rattle.std.proofs.lemmas.Int.{ints}
-use Rattle.qm_math.specs.Fraction.{Fraction, HasPositiveDen, IsBelow, whole}
+use Rattle.qm_math.specs.Fraction.{Fraction}
 use Rattle.qm_frac.specs.Gcd.{gcd_of}
 use Rattle.qm_frac.specs.Lowest.{IsFrac, IsInRange}
 use Rattle.qm_frac.proofs.Divisors.{gcd_of-one}
 use Rattle.qm_model.specs.declared.row_id.RowId.{RowId}
-use Rattle.qm_model.specs.declared.row_id.RowId.TheVariants as id
 use Rattle.qm_text.specs.Digits.{is_plain_numeral, numeral_value}
-use Rattle.qm_text.specs.Numbers.{SpellsFraction, SpellsNatural, SpellsWhole}
+use Rattle.qm_text.specs.Numbers.{SpellsFraction, SpellsWhole}
 use Rattle.qm_trees.specs.declared.combination.Entry.{Entry}
 use Rattle.qm_trees.specs.Entries.{AreEntries, AreWellFormed, IsBefore, IsPositive}
-use Rattle.qm_certread.specs.declared.fault.Misread.{Misread}
 use Rattle.qm_certread.specs.declared.fault.Misread.TheVariants as rule
 use Rattle.qm_certfile.specs.Lines.{Word}
-use Rattle.qm_certread.specs.Spelling.{Said, Written, are_in_order, as_count, as_fraction, as_row, cut_at, each, entry_of, entry_row, entry_said, fraction_of, fraction_word, is_before, is_in_range, kind_of, multiplier_word, of_type, row_id, whole_of, with_both, written, written_row}
+use Rattle.qm_certread.specs.Spelling.{Said, Written, are_in_order, as_fraction, as_row, cut_at, each, entry_of, entry_row, entry_said, fraction_of, fraction_word, is_before, is_in_range, kind_of, multiplier_word, of_type, row_id, whole_of, with_both, written, written_row}
 use Rattle.qm_certread.proofs.Quotients.{fraction_some, is_range}
 use Rattle.qm_certread.proofs.RowOrder.{both, is_counting_by, counting_some}
 

@@ -1,8 +1,6 @@
 -- What is read of a text, line by line.
-use Rattle.std.proofs.Common.{◌≡◌, ℕ, ◌+◌, ◌<◌, ◌≤◌, List, [], ◌∷◌, ◌++◌, append_assoc, length, drop, Ok, Err, inl, inr, refl, sym, ap, ap₂, ◌∙◌, subst, arith}
-use Rattle.qm_frac.specs.declared.leaves.Leaves.{Leaves}
+use Rattle.std.proofs.Common.{◌≡◌, ℕ, ◌+◌, List, [], ◌∷◌, ◌++◌, drop, Ok, Err, inl, inr, sym, ap, ap₂, ◌∙◌, subst, arith}
 use Rattle.qm_model.specs.declared.game.Problem.{Problem}
-use Rattle.qm_trees.specs.declared.rule.Rule.{Rule}
 use Rattle.qm_trees.specs.declared.rule.Rule.TheVariants as broken
 use Rattle.qm_trees.specs.Verdicts.{Verdict, Fine, Broken, Left, ◌then◌}
 use Rattle.memchr.specs.Find.{is_byte}
@@ -13,12 +11,12 @@ use Rattle.qm_certread.specs.declared.fault.Misread.{Misread}
 use Rattle.qm_certread.specs.declared.fault.Misread.TheVariants as rule
 use Rattle.qm_certfile.specs.Lines.{Line}
 use Rattle.qm_certfile.specs.Styles.{first_style}
-use Rattle.qm_certread.specs.Pieces.{lines_of, words_of}
+use Rattle.qm_certread.specs.Pieces.{words_of}
 use Rattle.qm_certread.specs.Spelling.{Said}
 use Rattle.qm_certread.specs.Nodes.{Node}
 use Rattle.qm_certread.specs.Dues.{Due, after}
 use Rattle.qm_certread.specs.Forms.{form_of, rule_of, said_as, said_at}
-use Rattle.qm_certread.specs.ReadSteps.{IsFault, IsMissing, IsNext, Moves, NextBreaks, NextFails, NextSays, form_at, lines_at}
+use Rattle.qm_certread.specs.ReadSteps.{IsFault, IsMissing, Moves, NextBreaks, NextFails, NextSays, form_at, lines_at}
 use Rattle.qm_certread.proofs.WordCuts.{some_piece}
 
 -- ---- verdicts

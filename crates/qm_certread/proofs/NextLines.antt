@@ -1,6 +1,5 @@
 -- The next line of a text.
-use Rattle.std.proofs.Common.{◌≡◌, ◌≢◌, ℕ, suc, ◌+◌, ◌-◌, ◌<◌, ◌≤◌, true, List, [], ◌∷◌, ◌++◌, length, take, drop, get_or, Option, None, Some, Result, Ok, Err, inl, inr, refl, sym, ap, ap₂, ◌∙◌, subst, arith}
-use Rattle.std.specs.Prelude.{◌⊎◌}
+use Rattle.std.proofs.Common.{◌≡◌, ℕ, ◌+◌, ◌-◌, ◌<◌, ◌≤◌, true, List, ◌∷◌, ◌++◌, length, take, drop, get_or, None, Some, Ok, Err, inl, inr, refl, sym, ap, ap₂, ◌∙◌, subst, arith}
 use Rattle.std.proofs.lemmas.Bool.Decides.{nat_tests}
 use Rattle.std.proofs.lemmas.List.{get_or-drop, length-drop, drop-drop, drop_more, take-append-drop}
 use Rattle.std.specs.List.{slice_split}
@@ -15,11 +14,8 @@ use Rattle.qm_certread.specs.declared.fault.Unread.TheVariants as unread
 use Rattle.qm_certfile.specs.Lines.{Line}
 use Rattle.qm_certread.specs.Pieces.{words_of}
 use Rattle.qm_certread.specs.Spelling.{Said}
-use Rattle.qm_certread.specs.Nodes.{Node}
-use Rattle.qm_certread.specs.SaidSteps.{GivesNode}
-use Rattle.qm_certread.specs.WordSteps.{Gives, Fails}
-use Rattle.qm_certread.specs.Forms.{said_as}
-use Rattle.qm_certread.specs.ReadSteps.{IsIn, IsMissing, IsNext, NextBreaks, NextFails, NextSays, fault_at, lines_at, unread_at}
+use Rattle.qm_certread.specs.WordSteps.{Fails}
+use Rattle.qm_certread.specs.ReadSteps.{IsIn, IsMissing, IsNext, NextFails, NextSays, fault_at, unread_at}
 use Rattle.qm_certread.proofs.Cuts.{split_nowhere, split_there}
 
 is_end : (byte : ℕ) → is_byte 10 byte ≡ true → byte ≡ 10

@@ -1,5 +1,5 @@
 -- Policies that are read.
-use Rattle.std.proofs.Common.{◌≡◌, ℕ, suc, ◌+◌, ◌<◌, Bool, true, false, List, [], ◌∷◌, ◌++◌, length, map, ℤ, Option, None, Some, Result, Ok, Err, inl, inr, refl, sym, ap, ap₂, ◌∙◌, subst, arith}
+use Rattle.std.proofs.Common.{◌≡◌, ℕ, suc, Bool, true, false, List, [], ◌∷◌, ◌++◌, length, map, ℤ, Option, None, Some, Ok, Err, inl, inr, refl, sym, ap, ◌∙◌, subst, arith}
 use Rattle.std.specs.Prelude.{codes, drop, if◌then◌else◌}
 use Rattle.std.proofs.lemmas.List.{length-map}
 use Rattle.memchr.specs.Find.{is_byte}
@@ -9,7 +9,6 @@ use Rattle.qm_model.specs.declared.variable.Player.TheVariants.{Exists, All as U
 use Rattle.qm_model.specs.declared.game.Problem.{Problem}
 use Rattle.qm_model.specs.Points.{continuous_vars}
 use Rattle.qm_trees.specs.Verdicts.{Verdict, Fine, Broken, ◌then◌}
-use Rattle.qm_trees.specs.declared.rule.Rule.TheVariants as broken
 use Rattle.qm_trees.specs.declared.policy.Policy.{Policy as Tree}
 use Rattle.qm_trees.specs.declared.policy.Policy.TheVariants.{Answer as AnswerTree, Choose as ChooseTree, rolls-Answer, rolls-Choose}
 use Rattle.qm_trees.specs.declared.policy.Below.TheOpen as answer
@@ -19,7 +18,6 @@ use Rattle.qm_trees.specs.declared.policy.PolicyPart.{PolicyPart}
 use Rattle.qm_certread.specs.declared.cursor.Cursor.{Cursor}
 use Rattle.qm_certread.specs.declared.fault.CertFault.{CertFault}
 use Rattle.qm_certread.specs.declared.fault.CertFault.TheVariants as fault
-use Rattle.qm_certread.specs.declared.fault.Misread.{Misread}
 use Rattle.qm_certread.specs.declared.fault.Misread.TheVariants as rule
 use Rattle.qm_certfile.specs.Lines.{Line}
 use Rattle.qm_certfile.specs.Styles.{first_style}
@@ -29,9 +27,8 @@ use Rattle.qm_certread.specs.Nodes.{Node, Answer, Choose, Fixed, Leaf}
 use Rattle.qm_certread.specs.Dues.{Due, Below, Policy, after, illegal_line}
 use Rattle.qm_certread.specs.Forms.{form_of, is_line, player_at, policy_said, rule_of, said_as, said_at, said_behind}
 use Rattle.qm_certread.specs.NodesOf.{below_nodes, below_step, in_turn, policy_nodes, policy_part_nodes, policy_part_step, policy_step}
-use Rattle.qm_certread.specs.ReadSteps.{Fails, IsFault, IsMissing, IsNext, IsOther, Meets, Moves, NextFails, NextSays, fixed_said, form_at, lines_at}
+use Rattle.qm_certread.specs.ReadSteps.{Fails, IsFault, IsMissing, IsOther, Meets, Moves, NextSays, fixed_said, form_at, lines_at}
 use Rattle.qm_certread.proofs.WordCuts.{some_piece}
-use Rattle.qm_certread.proofs.TreesRead.{line_fails}
 
 pub choose_nodes : (value : ℤ) (below tree : Tree) → below ≡ tree → policy_nodes (ChooseTree value below) ≡ Choose value ∷ policy_nodes tree
 choose_nodes value below tree is =

@@ -1,5 +1,5 @@
 -- Positions of variables, as words name them.
-use Rattle.std.proofs.Common.{◌≡◌, ℕ, zero, suc, ◌+◌, ◌-◌, ◌<◌, ◌≤◌, ◌^◌, List, [], ◌∷◌, length, take, ℤ, pos, negsuc, Option, None, Some, Result, Ok, Err, inl, inr, refl, sym, ap, ◌∙◌, subst, to_z, of_z, arith}
+use Rattle.std.proofs.Common.{◌≡◌, ℕ, zero, suc, ◌<◌, ◌≤◌, ◌^◌, List, [], ◌∷◌, length, ℤ, pos, negsuc, Option, None, Some, Result, Ok, Err, inl, inr, refl, sym, ap, ◌∙◌, to_z, of_z, arith}
 use Rattle.std.specs.Prelude.{FitsSigned, slice_get, ◌&&◌, nat_le, if◌then◌else◌}
 use Rattle.std.specs.Int.{w64}
 use Rattle.std.proofs.lemmas.Int.{to_z-of_z}
@@ -16,7 +16,7 @@ use Rattle.qm_model.specs.Plays.{is_universal, whole_vars}
 use Rattle.qm_certread.specs.declared.fault.Misread.{Misread}
 use Rattle.qm_certread.specs.declared.fault.Misread.TheVariants as rule
 use Rattle.qm_certread.specs.Spelling.{Said, whole_of}
-use Rattle.qm_certread.specs.Forms.{position_at, position_said}
+use Rattle.qm_certread.specs.Forms.{position_said}
 use Rattle.qm_certread.specs.SaidSteps.{position_from}
 use Rattle.qm_certread.proofs.Decoded.{whole_is, whole_some}
 

@@ -1,19 +1,18 @@
 -- The fraction of a word, and what spells it.
-use Rattle.std.proofs.Common.{◌≡◌, ◌≢◌, ℕ, zero, suc, ◌+◌, ◌<◌, ◌≤◌, ◌^◌, Bool, true, false, ◌&&◌, List, [], ◌∷◌, ◌++◌, length, get_or, ℤ, pos, negsuc, Option, None, Some, Result, Ok, Err, IsTrue, refl, sym, ap, ap₂, ◌∙◌, subst, inl, inr, arith, unsigned_abs}
-use Rattle.std.specs.Prelude.{◌==◌, ◌⊎◌, nat_lt, nat_le, if◌then◌else◌}
+use Rattle.std.proofs.Common.{◌≡◌, ◌≢◌, ℕ, suc, ◌<◌, ◌≤◌, Bool, true, false, ◌&&◌, List, [], ◌∷◌, ◌++◌, length, get_or, ℤ, Option, None, Some, Ok, Err, refl, sym, ap, ap₂, ◌∙◌, subst, inl, inr, arith, unsigned_abs}
+use Rattle.std.specs.Prelude.{◌==◌, ◌⊎◌, nat_le, if◌then◌else◌}
 use Rattle.std.specs.Option.{option_map}
 use Rattle.std.proofs.lemmas.Bool.Decides.{nat_tests}
 use Rattle.qm_math.specs.Fraction.{Fraction}
 use Rattle.qm_frac.specs.Gcd.{gcd_of}
 use Rattle.qm_frac.specs.Lowest.{IsInRange}
-use Rattle.qm_text.specs.Numbers.{SpellsNatural, SpellsWhole, SpellsQuotient, SpellsFraction}
+use Rattle.qm_text.specs.Numbers.{SpellsNatural, SpellsWhole, SpellsFraction}
 use Rattle.qm_text.specs.Reading.{ReadsNumber}
-use Rattle.qm_text.specs.Steps.{HasNoSlash}
 use Rattle.qm_text.specs.declared.fault.NumberFault.{NumberFault}
 use Rattle.qm_text.proofs.Slashes.{whole_no_slash}
 use Rattle.qm_text.proofs.Readings.{read_fits}
 use Rattle.qm_certfile.specs.Lines.{Word}
-use Rattle.qm_certread.specs.Spelling.{Said, of_type, cut_at, with_front, natural_of, whole_of, over_one, is_in_range, is_broken, quotient_of, fraction_of, as_fraction, fraction_word}
+use Rattle.qm_certread.specs.Spelling.{cut_at, with_front, natural_of, whole_of, over_one, is_in_range, is_broken, quotient_of, fraction_of, as_fraction, fraction_word}
 use Rattle.qm_certread.specs.WordSteps.{fault_of}
 use Rattle.qm_certread.proofs.Decoded.{natural_some, natural_is, whole_some, whole_is, typed_ok, typed_err, typed_some}
 

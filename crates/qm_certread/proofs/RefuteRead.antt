@@ -1,10 +1,9 @@
 -- Refutations that are read.
-use Rattle.std.proofs.Common.{◌≡◌, ℕ, ◌+◌, ◌<◌, Bool, true, false, List, [], ◌∷◌, ◌++◌, length, map, ℤ, Option, None, Some, Result, Ok, Err, refl, sym, ap, ap₂, ◌∙◌, subst, arith}
-use Rattle.std.specs.Prelude.{codes, drop, slice_get, if◌then◌else◌}
+use Rattle.std.proofs.Common.{◌≡◌, ℕ, ◌<◌, Bool, true, false, List, [], ◌∷◌, length, map, ℤ, Option, None, Some, Ok, Err, refl, sym, ap, ◌∙◌}
+use Rattle.std.specs.Prelude.{codes, slice_get, if◌then◌else◌}
 use Rattle.std.specs.Option.{option_map}
 use Rattle.std.proofs.lemmas.List.{length-map}
 use Rattle.std.proofs.lemmas.Option.{slice_get_within}
-use Rattle.qm_model.specs.declared.variable.Player.{Player}
 use Rattle.qm_model.specs.declared.variable.Var.{Var}
 use Rattle.qm_model.specs.declared.game.Problem.{Problem}
 use Rattle.qm_model.specs.Plays.{whole_vars}
@@ -14,7 +13,6 @@ use Rattle.qm_trees.specs.declared.refutation.Refute.TheOpen as why
 use Rattle.qm_trees.specs.declared.refutation.Refute.TheFolds.{fold-roll-Refute}
 use Rattle.qm_trees.specs.declared.refutation.RefutePart.{RefutePart}
 use Rattle.qm_trees.specs.Entries.{Combination}
-use Rattle.qm_certread.specs.declared.fault.Misread.{Misread}
 use Rattle.qm_certread.specs.declared.fault.Misread.TheVariants as rule
 use Rattle.qm_certfile.specs.Lines.{Line}
 use Rattle.qm_certfile.specs.Styles.{first_style}

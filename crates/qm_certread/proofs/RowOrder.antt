@@ -1,16 +1,14 @@
 -- Numbers in the order of their digits.
-use Rattle.std.proofs.Common.{◌≡◌, ◌≢◌, ℕ, zero, suc, ◌+◌, ◌-◌, ◌*◌, ◌<◌, ◌≤◌, ◌^◌, Bool, true, false, not, ◌&&◌, List, [], ◌∷◌, length, get_or, ℤ, pos, negsuc, neg_ℤ, Option, None, Some, IsTrue, refl, sym, ap, ap₂, ◌∙◌, subst, inl, inr, arith}
+use Rattle.std.proofs.Common.{◌≡◌, ◌≢◌, ℕ, zero, suc, ◌+◌, ◌-◌, ◌*◌, ◌<◌, ◌≤◌, ◌^◌, Bool, true, false, not, ◌&&◌, List, [], ◌∷◌, length, get_or, pos, Option, None, Some, refl, sym, ap, ap₂, ◌∙◌, subst, inl, inr, arith}
 use Rattle.std.specs.Prelude.{◌||◌, ◌==◌, ◌⊎◌, nat_lt, int_lt, if◌then◌else◌}
 use Rattle.std.specs.Option.{option_map}
 use Rattle.std.specs.Char.{is_ascii_digit}
 use Rattle.std.proofs.lemmas.Bool.Decides.{nat_tests}
-use Rattle.std.proofs.lemmas.Int.{ints}
 use Rattle.std.proofs.Math.Nat.{suc-mul, mul-le-mul_right, pow-le-pow_right}
 use Rattle.qm_frac.specs.Signs.{signed}
 use Rattle.qm_text.specs.Digits.{are_digits, is_numeral, is_plain_numeral, numeral_value}
 use Rattle.qm_text.proofs.Written.{value_below}
-use Rattle.qm_text.proofs.Slashes.{digits_of_plain}
-use Rattle.qm_certread.specs.Spelling.{Written, below_zero, natural_of, whole_of, written}
+use Rattle.qm_certread.specs.Spelling.{below_zero, natural_of, whole_of, written}
 use Rattle.qm_certread.proofs.Decoded.{natural_is}
 use Rattle.qm_certread.specs.WordSteps.{IsRow, IsSignedDigits, digits_before, is_counting}
 

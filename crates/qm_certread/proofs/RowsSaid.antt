@@ -1,14 +1,11 @@
 -- Rows and entries, as words say them.
-use Rattle.std.proofs.Common.{◌≡◌, ◌≢◌, ℕ, zero, suc, ◌+◌, ◌-◌, ◌<◌, ◌^◌, Bool, true, false, List, [], ◌∷◌, length, take, drop, ℤ, pos, negsuc, Option, None, Some, Result, Ok, Err, refl, sym, ap, ap₂, ◌∙◌, arith}
-use Rattle.std.specs.Prelude.{◌==◌, nat_lt, if◌then◌else◌}
+use Rattle.std.proofs.Common.{◌≡◌, ◌≢◌, ℕ, zero, suc, ◌-◌, ◌^◌, Bool, true, false, ℤ, pos, negsuc, Option, None, Some, Ok, Err, refl, sym, ap, ◌∙◌, arith}
+use Rattle.std.specs.Prelude.{nat_lt, if◌then◌else◌}
 use Rattle.std.specs.Option.{option_map}
-use Rattle.memchr.specs.Find.{is_byte, IsFirstByte}
 use Rattle.qm_model.specs.declared.row_id.RowId.{RowId}
-use Rattle.qm_trees.specs.declared.combination.Entry.{Entry}
 use Rattle.qm_certread.specs.declared.fault.Misread.{Misread}
 use Rattle.qm_certread.specs.declared.fault.Misread.TheVariants as rule
-use Rattle.qm_certfile.specs.Lines.{Word}
-use Rattle.qm_certread.specs.Spelling.{Said, Written, of_type, with_both, cut_at, whole_of, as_count, as_row, row_id, written, written_row, entry_of, entry_said, multiplier_word}
+use Rattle.qm_certread.specs.Spelling.{Said, of_type, as_count, as_row, row_id, written}
 use Rattle.qm_certread.specs.WordSteps.{row_number_said}
 use Rattle.qm_certread.proofs.Decoded.{typed_some, outside}
 

@@ -3,7 +3,7 @@ use Rattle.std.specs.Prelude.{ℕ, zero, suc, ◌+◌, List, [], ◌∷◌, code
 use Rattle.qm_certfile.specs.Lines.{Line}
 use Rattle.qm_certfile.specs.Styles.{Style}
 use Rattle.qm_certfile.specs.CertificateLines.{alone, version_line}
-use Rattle.qm_certread.specs.Nodes.{Node, Fixed, Infeasible, NoPlay, Optimal, Legal, Choose, Answer, Leaf, Split, Over, Pick, Close, Part}
+use Rattle.qm_certread.specs.Nodes.{Node, Fixed, Infeasible, NoPlay, Optimal, Choose, Answer, Split, Over, Pick, Part}
 
 pub data Due : Type 0 where
   -- the first line, which says how the game ends

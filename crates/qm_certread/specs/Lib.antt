@@ -8,4 +8,3 @@ pub mod ReadSteps
 pub mod Reading
 pub mod WordSteps
 pub mod SaidSteps
-pub mod Fits

@@ -2,7 +2,7 @@
 use Rattle.std.specs.Prelude.{ℕ, List}
 use Rattle.std.specs.List.{slice_split}
 use Rattle.memchr.specs.Find.{is_byte}
-use Rattle.qm_certfile.specs.Lines.{Word, Line}
+use Rattle.qm_certfile.specs.Lines.{Line}
 
 -- What stands between the LFs of a text. The last piece has no LF: it is empty where the text ends behind one.
 abbrev pub lines_of : List ℕ → List (List ℕ)

@@ -1,7 +1,5 @@
 -- What small steps of the reader do. No public clause cites this.
 use Rattle.std.specs.Prelude.{◌≡◌, ◌≢◌, ◌⊎◌, ◌++◌, true, false, not, ◌&&◌, ◌==◌, IsTrue, slice_index, ℕ, zero, suc, ◌^◌, ℤ, pos, negsuc, nat_lt, if◌then◌else◌, Bool, List, [], ◌∷◌, Option, None, Some, Result, Ok, Err}
-use Rattle.std.specs.List.{slice_split}
-use Rattle.memchr.specs.Find.{is_byte}
 use Rattle.qm_frac.specs.Signs.{signed}
 use Rattle.qm_text.specs.Digits.{is_numeral, numeral_value}
 use Rattle.qm_text.specs.declared.fault.NumberFault.{NumberFault}

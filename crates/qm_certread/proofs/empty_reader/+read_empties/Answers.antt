@@ -2,7 +2,7 @@ use Rattle.std.proofs.Common.{◌≡◌, ◌+◌, length, arith, refl}
 use Rattle.qm_certread.specs.Dues.{Empty, ranges}
 use Rattle.qm_certread.specs.Forms.{empty_said}
 use Rattle.qm_certread.specs.Nodes.{Split}
-use Rattle.qm_certread.specs.NodesOf.{empty_nodes, empty_part_nodes, in_turn}
+use Rattle.qm_certread.specs.NodesOf.{empty_part_nodes, in_turn}
 use Rattle.qm_certread.specs.Pieces.{words_of}
 use Rattle.qm_certread.specs.ReadSteps.{Fails, FailsPart}
 use Rattle.std.proofs.Common.{rules, [], ◌∷◌, ◌++◌, ap, map, length-append}

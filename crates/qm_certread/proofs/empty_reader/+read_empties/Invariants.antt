@@ -1,4 +1,4 @@
-use Rattle.std.proofs.Common.{◌≡◌, ℕ, ◌+◌, ◌-◌, ◌*◌, List, ◌++◌, length, map}
+use Rattle.std.proofs.Common.{◌≡◌, ◌+◌, ◌-◌, ◌*◌, List, ◌++◌, length, map}
 use Rattle.qm_model.specs.Plays.{whole_vars}
 use Rattle.qm_certread.specs.Dues.{Due, Empty, ranges}
 use Rattle.qm_certread.specs.NodesOf.{empty_part_nodes, in_turn}

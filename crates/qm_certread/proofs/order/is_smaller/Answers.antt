@@ -1,6 +1,4 @@
-use Rattle.std.proofs.Common.{◌≡◌, ◌∙◌, true, arith}
-use Rattle.std.proofs.lemmas.Bool.Decides.{nat_tests}
-use Rattle.qm_certread.specs.WordSteps.{is_counting}
+use Rattle.std.proofs.Common.{◌∙◌}
 use Rattle.qm_certread.proofs.RowOrder.{before_is, digits_of_counting, longer, shorter}
 use Rattle.qm_certread.proofs.order.is_smaller.Goals as goal
 

@@ -1,4 +1,4 @@
-use Rattle.std.proofs.Common.{rules, ◌≡◌, ◌+◌, ◌<◌, ◌^◌, length, [], ◌∷◌, ◌++◌, Some, None, ap, sym, subst, map, length-append, arith, refl}
+use Rattle.std.proofs.Common.{rules, ◌≡◌, ◌+◌, ◌<◌, ◌^◌, length, [], ◌∷◌, ◌++◌, Some, ap, sym, subst, map, length-append, arith, refl}
 use Rattle.std.proofs.lemmas.List.{length-take}
 use Rattle.std.specs.Prelude.{codes}
 use Rattle.qm_model.specs.declared.variable.Player.TheVariants.{Exists, All as Universal}

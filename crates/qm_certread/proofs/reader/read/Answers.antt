@@ -1,4 +1,3 @@
-use Rattle.std.proofs.Common.{◌∙◌}
 use Rattle.qm_certread.proofs.WholeRead.{body_fails, claim_fails, end_result}
 use Rattle.qm_certread.proofs.reader.read.Goals as goal
 

@@ -3,7 +3,7 @@ use Rattle.std.proofs.lemmas.List.{length-take}
 use Rattle.qm_certread.specs.Dues.{Refute, ranges}
 use Rattle.qm_certread.specs.Forms.{refute_said}
 use Rattle.qm_certread.specs.Nodes.{Over, Pick}
-use Rattle.qm_certread.specs.NodesOf.{in_turn, refute_nodes, refute_part_nodes}
+use Rattle.qm_certread.specs.NodesOf.{in_turn, refute_part_nodes}
 use Rattle.qm_certfile.specs.Styles.{first_style}
 use Rattle.qm_certread.specs.Pieces.{words_of}
 use Rattle.qm_certread.specs.ReadSteps.{Fails, FailsPart}
