@@ -9,12 +9,12 @@ use std::alloc::{AllocError, Global};
 pub fn answer(alloc: Global, line: &str) -> Result<String, AllocError> {
     let (word, words) = line.split_once(' ').unwrap_or((line, ""));
     match game_before(alloc, words)? {
-        Stated::Game(game) => line_of(alloc, answer_of_word(alloc, word, &game, behind(words))),
+        Stated::Game(game) => line_of(alloc, box_answer(alloc, word, &game, behind(words))),
         Stated::Nothing(line) => Ok(line),
     }
 }
 
-fn answer_of_word(
+fn box_answer(
     alloc: Global,
     word: &str,
     game: &Game,

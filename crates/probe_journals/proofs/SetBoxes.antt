@@ -10,15 +10,12 @@ use Rattle.qm_model.specs.Legal.{IsLegal, IsPrefix, universal_part}
 use Rattle.qm_model.specs.Plays.{BeginWithin, IsWithin, is_universal, whole_vars}
 use Rattle.qm_model.specs.Ranges.{single}
 use Rattle.qm_model.proofs.BoxLaws.{inside_itself, whole_box_is_box}
+use Rattle.qm_model.proofs.Players.{by_player, is_for_all, not_universal}
 use Rattle.qm_model.proofs.LegalMoves.{BeginWithin-long, universal_part-none}
-use Rattle.qm_legal.specs.Queries.{AreFree, AreSet, IsCompletion, IsExact, IsQuery, low_of, set_values}
+use Rattle.qm_legal.specs.Queries.{AreFree, AreSet, IsCompletion, IsExact, IsQuery, IsQueryOf, low_of, set_values}
 use Rattle.qm_legal.specs.declared.legality.Legality.{Legality}
 use Rattle.qm_legal.proofs.Boxes.{between_inside}
 use Rattle.qm_journal.specs.Lawful.{play_box, prefix_box}
-
-by_bool : {A : Type 0} (b : Bool) → (b ≡ true → A) → (b ≡ false → A) → A
-by_bool true yes no = yes refl
-by_bool false yes no = no refl
 
 inside_single : (x : Var) (v : ℤ) → IsWithin x v → IsInside (single v) (bounds_of x)
 inside_single x v h = between_inside (bounds_of x) (single v) h.0 (omega (arith, ints)) h.1
@@ -30,30 +27,17 @@ prefix_box-is_box zero (x ∷ xs) (v ∷ vs) h = absurd h
 prefix_box-is_box (suc n) [] (v ∷ vs) h = absurd h
 prefix_box-is_box (suc n) (x ∷ xs) (v ∷ vs) h = (inside_single x v h.0, prefix_box-is_box n xs vs h.1)
 
--- the next universal value belongs to this variable, or to a later one
-begin-here : (x : Var) (xs : List Var) (u : ℤ) (us : List ℤ) → is_universal x ≡ true → BeginWithin (filter is_universal (x ∷ xs)) (u ∷ us) → IsWithin x u × BeginWithin (filter is_universal xs) us
-begin-here x xs u us e h = rw e at h
-
-begin-later : (x : Var) (xs : List Var) (us : List ℤ) → is_universal x ≡ false → BeginWithin (filter is_universal (x ∷ xs)) us → BeginWithin (filter is_universal xs) us
-begin-later x xs us e h = rw e at h
-
-play_box-here : (x : Var) (xs : List Var) (u : ℤ) (us : List ℤ) → is_universal x ≡ true → play_box (x ∷ xs) (u ∷ us) ≡ single u ∷ play_box xs us
-play_box-here x xs u us e = rw e refl
-
-play_box-later : (x : Var) (xs : List Var) (u : ℤ) (us : List ℤ) → is_universal x ≡ false → play_box (x ∷ xs) (u ∷ us) ≡ bounds_of x ∷ play_box xs (u ∷ us)
-play_box-later x xs u us e = rw e refl
-
 pub play_box-is_box : (n : ℕ) (xs : List Var) (us : List ℤ) → BeginWithin (filter is_universal (take n xs)) us → IsBox xs (play_box xs us)
 play_box-is_box n xs [] h = whole_box_is_box xs
 play_box-is_box zero [] (u ∷ us) h = absurd h
 play_box-is_box zero (x ∷ xs) (u ∷ us) h = absurd h
 play_box-is_box (suc n) [] (u ∷ us) h = absurd h
 play_box-is_box (suc n) (x ∷ xs) (u ∷ us) h =
-    by_bool (is_universal x)
-    (λ e. let at = begin-here x (take n xs) u us e h in
-    subst (λ bx. IsBox (x ∷ xs) bx) (sym (play_box-here x xs u us e)) (inside_single x u at.0, play_box-is_box n xs us at.1))
-    (λ e. subst (λ bx. IsBox (x ∷ xs) bx) (sym (play_box-later x xs u us e))
-    (inside_itself (bounds_of x), play_box-is_box n xs (u ∷ us) (begin-later x (take n xs) (u ∷ us) e h)))
+    by_player x (IsBox (x ∷ xs) (play_box (x ∷ xs) (u ∷ us)))
+    (λ existential. rw (not_universal x existential) (inside_itself (bounds_of x), play_box-is_box n xs (u ∷ us) (rw (not_universal x existential) at h)))
+    (λ universal.
+    let at : IsWithin x u × BeginWithin (filter is_universal (take n xs)) us = rw (is_for_all x universal) at h in
+    rw (is_for_all x universal) (inside_single x u at.0, play_box-is_box n xs us at.1))
 
 -- ---- the box of a prefix as a query's
 
@@ -99,3 +83,10 @@ pub prefix_box_legal : (P : Problem) (prefix : List ℤ) (bx : List Range) (lega
     → IsExact P (length prefix) bx legality → IsCompletion legality ↔ IsLegal P prefix
 prefix_box_legal P prefix bx legality within e exact =
     exact prefix (prefix_box-values P.wholes P.vars prefix within ∙ ap (λ b. set_values P (length prefix) b) (sym e))
+
+-- the universal values of a prefix box are those of the prefix, so it may be asked about
+pub prefix_box_asked : (P : Problem) (prefix : List ℤ) (bx : List Range) → IsPrefix P prefix → bx ≡ prefix_box P.vars prefix → IsQueryOf P prefix bx
+prefix_box_asked P prefix bx within e = record {
+  query = prefix_box_query P prefix bx within e;
+  values = ap (λ b. set_values P (length prefix) b) e ∙ sym (prefix_box-values P.wholes P.vars prefix within);
+}

@@ -1,10 +1,10 @@
 ghost use Rattle.std.specs.Prelude.{◌≡◌, ◌≤◌, [], OnOk};
 ghost use Rattle.qm_journal.specs.Lawful.{IsLawful};
 
-use crate::asked::root_words;
+use crate::asked::{answer_words, root_words};
 use crate::entries::entry_words;
 use crate::first_values::whole_vars;
-use crate::questions::{enter_game, value_words};
+use crate::questions::{asked, enter_game};
 use probe_words::NoAnswer;
 use qm_game::{Game, Var};
 use qm_journal::Journal;
@@ -39,17 +39,14 @@ fn visit(
     ensures { OnOk result (IsLawful game.now journal.new.entries) }
 {
     match rest.split_first() {
-        Some((var, later)) if is_for_all(var) => {
-            visit_all(alloc, game, var, later, parent, journal, out)
-        }
-        Some((var, later)) => visit_first(alloc, game, var, later, parent, journal, out),
+        Some((var, later)) => visit_values(alloc, game, var, later, parent, journal, out),
         None => Ok(()),
     }
 }
 
-// Behind each value of the universal player.
+// Behind each value of the universal player, or the first existential one with which there is a game entry.
 #[cycle(visits)]
-fn visit_all(
+fn visit_values(
     alloc: Global,
     game: &Game,
     var: &Var,
@@ -62,29 +59,8 @@ fn visit_all(
     ensures { OnOk result (IsLawful game.now journal.new.entries) }
 {
     for value in var.low..=var.high {
-        let answer = value_words(alloc, game, parent, value, journal)?;
-        out.push_str(answer.as_str())?;
-        let _entered = visit_behind(alloc, game, later, parent, value, journal, out)?;
-    }
-    Ok(())
-}
-
-// Behind the first value with which there is a game entry.
-#[cycle(visits)]
-fn visit_first(
-    alloc: Global,
-    game: &Game,
-    var: &Var,
-    later: &[Var],
-    parent: u32,
-    journal: &mut Journal,
-    out: &mut String,
-) -> Result<(), NoAnswer>
-    requires { IsLawful game.now journal.old.entries }
-    ensures { OnOk result (IsLawful game.now journal.new.entries) }
-{
-    for value in var.low..=var.high {
-        if visit_behind(alloc, game, later, parent, value, journal, out)? {
+        ask(alloc, game, var, parent, value, journal, out)?;
+        if visit_behind(alloc, game, later, parent, value, journal, out)? && !is_for_all(var) {
             return Ok(());
         }
     }
@@ -112,4 +88,29 @@ fn visit_behind(
         }
         None => Ok(false),
     }
+}
+
+// Whether the value is legal, where the universal player sets the variable: the number, the value and the answer.
+fn ask(
+    alloc: Global,
+    game: &Game,
+    var: &Var,
+    parent: u32,
+    value: i64,
+    journal: &mut Journal,
+    out: &mut String,
+) -> Result<(), NoAnswer>
+    requires { IsLawful game.now journal.old.entries }
+    ensures { OnOk result (IsLawful game.now journal.new.entries) }
+{
+    if !is_for_all(var) {
+        return Ok(());
+    }
+    let words = match asked(alloc, game, parent, value, journal)? {
+        Some(answer) => answer_words(alloc, &answer)?,
+        None => String::from_str(alloc, "no question")?,
+    };
+    let words = format!(in alloc; ", {parent} {value} {words}")?;
+    out.push_str(words.as_str())?;
+    Ok(())
 }

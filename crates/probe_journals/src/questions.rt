@@ -5,62 +5,42 @@ ghost use Rattle.qm_journal.specs.Questions.{IsNewQuestion, named_prefix};
 ghost use Rattle.qm_legal.specs.Queries.{IsQueryOf};
 
 use crate::appended::is_universal_turn;
-use crate::asked::answer_words;
 use crate::first_values::{begin_within, whole_vars};
 use crate::lawful::{is_new, is_next, is_parent};
 use crate::set_boxes::box_of_prefix;
 use crate::stands::{Stand, positions_of, with_end};
-use probe_words::NoAnswer;
 use qm_game::{Bx, Game};
 use qm_io::Memory;
 use qm_journal::{JEntry, JKind, Journal, JournalFault};
-use qm_legal::{NamedPrefix, legal};
+use qm_legal::{LegalFault, Legality, NamedPrefix, legal};
 use std::alloc::Global;
 
 /// Whether the value of the universal player behind the game entry of this number, or behind the empty prefix for 0, is
-/// legal: the number, the value and the answer.
-pub fn value_words(
+/// legal; none, where it can't be asked.
+pub fn asked(
     alloc: Global,
     game: &Game,
     parent: u32,
     value: i64,
     journal: &mut Journal,
-) -> Result<String, NoAnswer>
+) -> Result<Option<Result<Legality, LegalFault>>, Memory>
     requires { IsLawful game.now journal.old.entries }
     ensures { OnOk result (IsLawful game.now journal.new.entries) }
 {
     let known = positions_of(alloc, journal.entries())?;
     if !is_question(game, known.as_slice(), journal.entries(), parent, value) {
-        return Ok(format!(in alloc; ", {parent} {value} no question")?);
+        return Ok(None);
     }
     let prefix = with_end(alloc, known.as_slice()[parent as usize].prefix(), value)?;
     if !begin_within(whole_vars(game), prefix.as_slice()) {
-        return Ok(format!(in alloc; ", {parent} {value} outside")?);
+        return Ok(None);
     }
     let bx = box_of_prefix(alloc, game, prefix.as_slice())?;
-    asked_words(alloc, game, &bx, parent, value, journal)
-}
-
-fn asked_words(
-    alloc: Global,
-    game: &Game,
-    bx: &Bx,
-    parent: u32,
-    value: i64,
-    journal: &mut Journal,
-) -> Result<String, NoAnswer>
-    requires lawful { IsLawful game.now journal.old.entries }
-    requires new { IsNewQuestion game.now journal.old.entries parent (Some value) }
-    requires bx { IsQueryOf game.now (named_prefix journal.old.entries parent (Some value)) bx.now }
-    ensures { OnOk result (IsLawful game.now journal.new.entries) }
-{
     let named = NamedPrefix {
         parent,
         value: Some(value),
     };
-    let answer = legal(alloc, game, bx, named, journal);
-    let answer = answer_words(alloc, &answer)?;
-    Ok(format!(in alloc; ", {parent} {value} {answer}")?)
+    Ok(Some(legal(alloc, game, &bx, named, journal)))
 }
 
 fn is_question(
