@@ -90,7 +90,7 @@ pub record IsPlainGame (universals : ℕ) (P : Problem) : Type 0 where
   pub plain_vars : All IsPlain P.vars
   pub universal_vars : AreUniversal universals P.vars
   pub wholes : P.wholes ≡ 1000
-  pub many_rows : length P.rows ≡ 2000
+  pub many_rows : length P.rows ≤ 2000
   pub plain_rows : All IsPlainRow P.rows
   pub few_urows : length P.urows ≤ 1000
   pub plain_urows : All (IsPlainUncertainty universals) P.urows

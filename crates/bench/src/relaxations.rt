@@ -2,6 +2,7 @@ ghost use Rattle.std.specs.Prelude.{List};
 ghost use Rattle.qm_model.specs.declared.variable.Var.{Var};
 ghost use Rattle.qm_model.specs.Boxes.{IsBox};
 
+use crate::answer::{memory, unasked};
 use crate::drawn::{Density, text_of};
 use crate::runs::game_of;
 use qm_frac::Frac;
@@ -10,9 +11,9 @@ use qm_io::{List, Memory};
 use qm_relax::{Relaxed, relax};
 use qm_simplex::{LpEnd, LpFault, solve_lp};
 use qm_tableau::first;
-use std::alloc::Global;
+use std::alloc::{AllocError, Global};
 
-/// What is done with each box of a play.
+// What is done with each box of a play.
 #[derive(Clone, Copy, PartialEq, Eq)]
 enum Part {
     /// Its first tableau is made.
@@ -34,10 +35,10 @@ impl Part {
     }
 }
 
-/// The boxes of a random play of a made problem: of so many variables, the first so many of which are whole, and with
-/// values that the seed decides. Either all of them, or those whose run makes no pivot.
+// The boxes of a random play of a made problem: of so many variables, the first so many of which are whole, and with
+// values that the seed decides. Either all of them, or those whose run makes no pivot.
 #[derive(Clone, Copy)]
-pub struct Play {
+struct Play {
     part: Part,
     still: bool,
     size: u32,
@@ -46,15 +47,15 @@ pub struct Play {
     times: u32,
 }
 
-/// How many boxes there were, and how many pivots their runs make.
+// How many boxes there were, and how many pivots their runs make.
 #[derive(Clone, Copy)]
-pub struct Walked {
-    pub boxes: u64,
-    pub pivots: u64,
+struct Walked {
+    boxes: u64,
+    pivots: u64,
 }
 
 impl Play {
-    pub fn read(words: &[String]) -> Option<Play> {
+    fn read(words: &[String]) -> Option<Play> {
         match words {
             [part, boxes, size, wholes, seed, times] => Some(Play {
                 part: Part::read(part.as_str())?,
@@ -68,8 +69,8 @@ impl Play {
         }
     }
 
-    /// Walks along the play so many times; what there was to walk along, nothing where there is no such problem.
-    pub fn walked(self, alloc: Global) -> Result<Walked, Memory> {
+    // Walks along the play so many times; what there was to walk along, nothing where there is no such problem.
+    fn walked(self, alloc: Global) -> Result<Walked, Memory> {
         let text = text_of(alloc, Density::Dense, self.size, self.wholes, self.seed).map_err(
             |_| Memory,
         )?;
@@ -109,6 +110,25 @@ impl Play {
             set_next(&mut bx, depth, self.seed);
         }
         Ok(())
+    }
+}
+
+/// How many boxes were gone through, and how many pivots their runs make.
+pub fn boxes_line(alloc: Global, words: &[String]) -> Result<String, AllocError> {
+    match Play::read(words) {
+        Some(play) => walked_line(alloc, play.walked(alloc)),
+        None => unasked(alloc),
+    }
+}
+
+fn walked_line(alloc: Global, walked: Result<Walked, Memory>) -> Result<String, AllocError> {
+    match walked {
+        Ok(walked) => {
+            let boxes = walked.boxes;
+            let pivots = walked.pivots;
+            format!(in alloc; "{boxes} {pivots}")
+        }
+        Err(Memory) => memory(alloc),
     }
 }
 
