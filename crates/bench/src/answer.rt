@@ -2,6 +2,7 @@ use crate::entries::entries_line;
 use crate::first::first_line;
 use crate::games::reasons_in;
 use crate::legality::{completed_in, legal_line};
+use crate::made::made_line;
 use crate::mixed::{leaf_line, leaf_run_line};
 use crate::parses::rows_in;
 use crate::relaxations::boxes_line;
@@ -17,12 +18,12 @@ pub fn answer(alloc: Global, words: &[String]) -> Result<String, AllocError> {
     match words {
         [word, times] => of_times(alloc, word.as_str(), times.as_str()),
         [word, kind, times] => of_kind(alloc, word.as_str(), kind.as_str(), times.as_str()),
-        [word, size, seed, times] => {
+        [word, size, number, times] => {
             of_problem(
                 alloc,
                 word.as_str(),
                 size.as_str(),
-                seed.as_str(),
+                number.as_str(),
                 times.as_str(),
             )
         }
@@ -79,13 +80,14 @@ fn of_problem(
     alloc: Global,
     word: &str,
     size: &str,
-    seed: &str,
+    number: &str,
     times: &str,
 ) -> Result<String, AllocError> {
     match word {
-        "leaves" => leaf_line(alloc, size, seed, times),
-        "leaf-runs" => leaf_run_line(alloc, size, seed, times),
-        _ => runs_line(alloc, word, size, seed, times),
+        "made" => made_line(alloc, size, number, times),
+        "leaves" => leaf_line(alloc, size, number, times),
+        "leaf-runs" => leaf_run_line(alloc, size, number, times),
+        _ => runs_line(alloc, word, size, number, times),
     }
 }
 

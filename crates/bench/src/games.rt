@@ -106,12 +106,7 @@ fn rows(alloc: Global, count: u32) -> Result<List<Row>, Memory>
 
 /// A game of 1,000 whole variables and so many rows, where the universal player sets the first so many variables and is to
 /// meet the rows that are given.
-pub fn game(
-    alloc: Global,
-    count: u32,
-    universals: u32,
-    urows: List<Row>,
-) -> Result<Game, Memory>
+pub fn game(alloc: Global, count: u32, universals: u32, urows: List<Row>) -> Result<Game, Memory>
     requires count { count ≤ 2000 }
     requires universals { universals ≤ 1000 }
     requires few { length urows ≤ 1000 }

@@ -1,6 +1,7 @@
 use crate::answer::{memory, unasked};
-use crate::drawn::mixed_text_of;
+use crate::made::Made;
 use crate::runs::{Ended, game_of, last_on};
+use crate::shapes::mixed_text_of;
 use qm_certfile::Certificate;
 use qm_game::Game;
 use qm_io::Memory;
@@ -27,20 +28,17 @@ impl Found {
     }
 }
 
-// The problem of so many continuous variables behind twenty whole ones of one value each, which the seed decides; and how
-// many times its one leaf is to be solved.
+// A made problem of one leaf, and how many times this is solved.
 #[derive(Clone, Copy)]
 struct Mixed {
-    size: u32,
-    seed: u32,
+    made: Made,
     times: u32,
 }
 
 impl Mixed {
-    fn read(size: &str, seed: &str, times: &str) -> Option<Mixed> {
+    fn read(size: &str, number: &str, times: &str) -> Option<Mixed> {
         Some(Mixed {
-            size: size.parse::<u32>().ok()?,
-            seed: seed.parse::<u32>().ok()?,
+            made: Made::read(size, number)?,
             times: times.parse::<u32>().ok()?,
         })
     }
@@ -62,8 +60,8 @@ impl Mixed {
     }
 
     fn game(self, alloc: Global) -> Result<Option<Game>, Memory> {
-        let text = mixed_text_of(alloc, self.size, self.seed).map_err(|_| Memory)?;
-        Ok(game_of(alloc, &text))
+        let text = mixed_text_of(alloc, self.made)?;
+        Ok(game_of(alloc, text.as_bytes()))
     }
 }
 
@@ -85,8 +83,13 @@ fn found_in(alloc: Global, game: &Game) -> Result<Found, Memory> {
 }
 
 /// What the last search finds.
-pub fn leaf_line(alloc: Global, size: &str, seed: &str, times: &str) -> Result<String, AllocError> {
-    match Mixed::read(size, seed, times) {
+pub fn leaf_line(
+    alloc: Global,
+    size: &str,
+    number: &str,
+    times: &str,
+) -> Result<String, AllocError> {
+    match Mixed::read(size, number, times) {
         Some(mixed) => found_line(alloc, mixed.found(alloc)),
         None => unasked(alloc),
     }
@@ -103,10 +106,10 @@ fn found_line(alloc: Global, found: Result<Found, Memory>) -> Result<String, All
 pub fn leaf_run_line(
     alloc: Global,
     size: &str,
-    seed: &str,
+    number: &str,
     times: &str,
 ) -> Result<String, AllocError> {
-    match Mixed::read(size, seed, times) {
+    match Mixed::read(size, number, times) {
         Some(mixed) => ended_line(alloc, mixed.ended(alloc)),
         None => unasked(alloc),
     }

@@ -4,7 +4,8 @@ ghost use Rattle.qm_model.specs.Boxes.{IsBox, IsEmptyRange};
 ghost use Rattle.qm_parse.specs.Parsing.{IsParsed};
 
 use crate::answer::{memory, unasked};
-use crate::drawn::{Density, text_of};
+use crate::made::Made;
+use crate::shapes::{Density, text_of};
 use crate::texts::MOST;
 use qm_game::{Bx, Game, has_empty, whole_box};
 use qm_io::{List, Memory};
@@ -58,35 +59,31 @@ impl Ended {
     }
 }
 
-// So many runs at the root of the problem of so many variables that the seed decides.
+// So many runs at the root of a made problem.
 #[derive(Clone, Copy)]
 struct Runs {
     density: Density,
-    size: u32,
-    seed: u32,
+    made: Made,
     times: u32,
 }
 
 impl Runs {
-    fn read(density: &str, size: &str, seed: &str, times: &str) -> Option<Runs> {
+    fn read(density: &str, size: &str, number: &str, times: &str) -> Option<Runs> {
         Some(Runs {
             density: match density {
                 "runs" => Density::Dense,
                 "sparse-runs" => Density::Sparse,
                 _ => return None,
             },
-            size: size.parse::<u32>().ok()?,
-            seed: seed.parse::<u32>().ok()?,
+            made: Made::read(size, number)?,
             times: times.parse::<u32>().ok()?,
         })
     }
 
     // How the last run ends; `None` where there is no run, or no such problem.
     fn last(self, alloc: Global) -> Result<Ended, Memory> {
-        let text = text_of(alloc, self.density, self.size, self.size, self.seed).map_err(
-            |_| Memory,
-        )?;
-        match game_of(alloc, &text) {
+        let text = text_of(alloc, self.density, self.made)?;
+        match game_of(alloc, text.as_bytes()) {
             Some(game) => last_on(alloc, &game, self.times),
             None => Ok(Ended::none()),
         }
@@ -98,10 +95,10 @@ pub fn runs_line(
     alloc: Global,
     density: &str,
     size: &str,
-    seed: &str,
+    number: &str,
     times: &str,
 ) -> Result<String, AllocError> {
-    match Runs::read(density, size, seed, times) {
+    match Runs::read(density, size, number, times) {
         Some(runs) => ended_line(alloc, runs.last(alloc)),
         None => unasked(alloc),
     }

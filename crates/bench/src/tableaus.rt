@@ -1,18 +1,19 @@
 ghost use Rattle.qm_model.specs.Boxes.{IsBox};
 
 use crate::answer::{memory, unasked};
-use crate::drawn::{Density, text_of};
+use crate::made::Made;
 use crate::runs::game_of;
+use crate::shapes::{Density, text_of};
 use qm_game::{Bx, Game, whole_box};
 use qm_io::{List, Memory};
 use qm_tableau::{Tableau, first};
 use std::alloc::{AllocError, Global};
 
-// The first tableau of a made problem, dense or sparse, of so many variables.
+// The first tableau of the first made problem of a size, dense or sparse.
 #[derive(Clone, Copy)]
 struct Shape {
     density: Density,
-    size: u32,
+    made: Made,
 }
 
 impl Shape {
@@ -25,7 +26,7 @@ impl Shape {
         };
         Some(Shape {
             density,
-            size: size.parse::<u32>().ok()?,
+            made: Made::new(size.parse::<u32>().ok()?, 1)?,
         })
     }
 }
@@ -39,8 +40,8 @@ struct Done {
 
 // The first tableau of this shape; none where no such game is.
 fn made(alloc: Global, shape: Shape) -> Result<Option<Tableau>, Memory> {
-    let text = text_of(alloc, shape.density, shape.size, shape.size, 1).map_err(|_| Memory)?;
-    match game_of(alloc, &text) {
+    let text = text_of(alloc, shape.density, shape.made)?;
+    match game_of(alloc, text.as_bytes()) {
         Some(game) => {
             let bx = whole_box(alloc, &game)?;
             Ok(Some(first_of(alloc, &game, &bx)?))
