@@ -96,12 +96,12 @@ fn asked_in(alloc: Global, times: u32) -> Result<Asked, LegalFault> {
         entries: 0,
     };
     for _ in 0..times {
-        last = asked(alloc, &game, &bx)?;
+        last = ask(alloc, &game, &bx)?;
     }
     Ok(last)
 }
 
-fn asked(alloc: Global, game: &Game, bx: &Bx) -> Result<Asked, LegalFault>
+fn ask(alloc: Global, game: &Game, bx: &Bx) -> Result<Asked, LegalFault>
     requires { IsQueryOf game.now [] bx.now }
 {
     let named = NamedPrefix {

@@ -39,7 +39,7 @@ struct Done {
 }
 
 // The first tableau of this shape; none where no such game is.
-fn made(alloc: Global, shape: Shape) -> Result<Option<Tableau>, Memory> {
+fn first_tableau(alloc: Global, shape: Shape) -> Result<Option<Tableau>, Memory> {
     let text = text_of(alloc, shape.density, shape.made)?;
     match game_of(alloc, text.as_bytes()) {
         Some(game) => {
@@ -91,7 +91,7 @@ fn pivots(alloc: Global, shape: Shape, turns: u32) -> Result<Done, Memory> {
         pivots: 0,
         whole: 0,
     };
-    if let Some(mut tableau) = made(alloc, shape)? {
+    if let Some(mut tableau) = first_tableau(alloc, shape)? {
         for turn in 0..turns {
             let (row, col) = place(&tableau, turn);
             let back = row_of_column(&tableau, col);
