@@ -15,13 +15,13 @@ use qm_tableau::first;
 use std::alloc::{AllocError, Global};
 
 // What is done with each box of a play.
-#[derive(Clone, Copy, PartialEq, Eq)]
+#[derive(Clone, Copy)]
 enum Part {
-    /// Its first tableau is made.
+    // Its first tableau is made.
     First,
-    /// Its relaxation is solved.
+    // Its relaxation is solved.
     Solve,
-    /// It is relaxed.
+    // It is relaxed.
     Relax,
 }
 
