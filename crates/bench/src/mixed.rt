@@ -8,11 +8,15 @@ use qm_io::Memory;
 use qm_search::{SearchFault, solve};
 use std::alloc::{AllocError, Global};
 
+/// The most entries of a search.
+const MOST: u64 = 1_000_000;
+
 // How searches end.
 #[derive(Clone, Copy)]
 enum Found {
     Value,
     NoValue,
+    Spent,
     Leave,
     None,
 }
@@ -22,6 +26,7 @@ impl Found {
         match self {
             Found::Value => "optimal",
             Found::NoValue => "no value",
+            Found::Spent => "spent",
             Found::Leave => "leaves",
             Found::None => "none",
         }
@@ -73,10 +78,17 @@ fn last_found(alloc: Global, game: &Game, times: u32) -> Result<Found, Memory> {
     Ok(found)
 }
 
+fn ending_of(certificate: &Certificate) -> Found {
+    match certificate {
+        Certificate::Optimal { .. } => Found::Value,
+        _ => Found::NoValue,
+    }
+}
+
 fn found_in(alloc: Global, game: &Game) -> Result<Found, Memory> {
-    match solve(alloc, game) {
-        Ok(Certificate::Optimal { .. }) => Ok(Found::Value),
-        Ok(_) => Ok(Found::NoValue),
+    match solve(alloc, game, MOST) {
+        Ok(solved) => Ok(ending_of(&solved.certificate)),
+        Err(SearchFault::Spent(_)) => Ok(Found::Spent),
         Err(SearchFault::Leave(_)) => Ok(Found::Leave),
         Err(SearchFault::Memory) => Err(Memory),
     }
