@@ -219,3 +219,12 @@ some_cap P cuts heads rest depth bx W first next None before above None e = absu
 pub some_answered : (P : Problem) (cuts : List Row) (heads : List Head) (rest : List Var) (depth : ℕ) (bx : List Range) (W : Window) (first low next : ℤ) (answers : Answers)
     → AreAnswers P cuts heads rest depth bx W first low next answers → first <ℤ next → IsSome (cap_below W.cap answers.worst)
 some_answered P cuts heads rest depth bx W first low next answers are above = some_cap P cuts heads rest depth bx W first next answers.worst are.worst above W.cap refl
+
+-- the window of the next value is one of fractions
+pub answer_window_proper : (P : Problem) (cuts : List Row) (heads : List Head) (rest : List Var) (depth : ℕ) (bx : List Range) (W : Window) (first low next : ℤ) (answers : Answers) → IsProperWindow W
+    → AreAnswers P cuts heads rest depth bx W first low next answers → IsProperWindow (answer_window W answers.worst)
+answer_window_proper P cuts heads rest depth bx W first low next answers proper are = record { floor = proper.floor; cap = cap answers.worst are.worst }
+  where
+    cap : (worst : Option Worst) → IsWorst P cuts heads rest depth bx W first next worst → IsProperCap (cap_below W.cap worst)
+    cap None is = proper.cap
+    cap (Some worst) is = is.positive

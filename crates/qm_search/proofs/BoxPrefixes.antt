@@ -88,7 +88,7 @@ module _ (P : Problem) (depth : ℕ) (bx : List Range) (here : IsSearchBox P dep
   journal_box_is = singles_played depth P.vars bx here.box here.set here.others
 
   -- its universal values are those that are set
-  values_are : universal_part (whole_vars P) (prefix_before depth bx) ≡ set_values P depth bx
+  pub values_are : universal_part (whole_vars P) (prefix_before depth bx) ≡ set_values P depth bx
   values_are = ap (universal_part (whole_vars P)) (sym (take-map low_of depth bx)) ∙ part_of_first depth (whole_vars P) (map low_of bx)
 
   pub legal_at : (completion : List ℤ) → Completes P depth bx completion → IsLegal P (prefix_before depth bx)

@@ -149,3 +149,12 @@ best_in_window P cuts heads rest depth bx W choices next player are past best e 
       reaches = tried.reaches;
       uncapped = tried.uncapped;
     }
+
+-- the window of the next choice is one of fractions
+pub choice_window_proper : (P : Problem) (cuts : List Row) (heads : List Head) (later : List Var) (depth : ℕ) (bx : List Range) (W : Window) (low next : ℤ) (choices : Choices) → IsProperWindow W
+    → AreChoices P cuts heads later depth bx W low next choices → IsProperWindow (choice_window W choices.best)
+choice_window_proper P cuts heads later depth bx W low next choices proper are = record { floor = floor choices.best are.best; cap = proper.cap }
+  where
+    floor : (best : Option Best) → IsBest P later depth bx W low next best → IsProper (goal_of (floor_beyond W.floor best))
+    floor None is = proper.floor
+    floor (Some best) is = is.positive

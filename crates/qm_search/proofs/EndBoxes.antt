@@ -1,5 +1,5 @@
 -- Where all whole variables are set: the prefix of the box is complete, and where its leaf run leaves, that may be told.
-use Rattle.std.proofs.Common.{◌≡◌, ℕ, ◌<◌, List, [], ◌∷◌, length, take, drop, arith, refl, sym, ap, subst, ℤ, Err, None}
+use Rattle.std.proofs.Common.{◌≡◌, ℕ, ◌<◌, List, [], ◌∷◌, length, drop, arith, refl, sym, ap, subst, ℤ, Err, None}
 use Rattle.std.specs.Prelude.{Any}
 use Rattle.std.proofs.lemmas.List.{length-drop, length-take}
 use Rattle.qm_model.specs.declared.range.Range.{Range}

@@ -1,5 +1,6 @@
 -- Harder goals, and what a value that reaches a floor says of them.
-use Rattle.std.proofs.Common.{◌≡◌, ℕ, List, pos, ◌≤ℤ◌, subst}
+use Rattle.std.proofs.Common.{ℕ, List, ℤ, pos, ◌≤ℤ◌, ◌<ℤ◌, arith}
+use Rattle.std.proofs.lemmas.Int.{ints}
 use Rattle.qm_math.specs.Fraction.{Fraction, HasPositiveDen, IsBelow}
 use Rattle.qm_math.proofs.Compare.{below_at_most, below_at_most_weak}
 use Rattle.qm_game.specs.declared.goal.Goal.{Goal as Floor}
@@ -33,3 +34,10 @@ no_harder_above (floor.Above t) value reaches = below_at_most_weak t value reach
 pub reaches_above : (F : Floor) (value more : Fraction) → HasPositiveDen value → HasPositiveDen more → IsProper (goal_of F) → Reaches value (goal_of F) → IsBelow value more → Reaches more (goal_of F)
 reaches_above F value more positive positive' proper reaches above =
     reaches_easier more (goal_of F) (Above value) positive' proper positive (no_harder_above F value reaches) above
+
+not_below : (a b : ℤ) → (a <ℤ b → ⊥) → b ≤ℤ a
+not_below a b not = grind (arith, ints)
+
+pub unreached : (value : Fraction) (F : Floor) → (Reaches value (goal_of F) → ⊥) → IsNoHarder (Above value) (goal_of F)
+unreached value floor.Any not = not tt
+unreached value (floor.Above most) not = not_below _ _ not

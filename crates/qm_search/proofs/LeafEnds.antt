@@ -1,30 +1,29 @@
 -- The end of a leaf run: its point is a leaf that reaches the value, and its combination refutes the rest.
-use Rattle.std.proofs.Common.{◌≡◌, ℕ, suc, ◌<◌, ◌≤◌, Bool, true, false, List, [], ◌∷◌, length, get_or, take, drop, All, arith, refl, sym, ap, subst, ◌∙◌, inr, Ok, Err}
-use Rattle.std.specs.Prelude.{Any, IsOk, Result, ◌⊎◌, if◌then◌else◌}
+use Rattle.std.proofs.Common.{◌≡◌, ℕ, suc, ◌≤◌, Bool, true, false, List, [], ◌∷◌, length, All, arith, refl, sym, ap, subst, ◌∙◌, inr, Ok, Err}
+use Rattle.std.specs.Prelude.{IsOk, if◌then◌else◌}
 use Rattle.std.specs.List.{list_any}
 use Rattle.std.proofs.lemmas.List.Elements.{All-cons, All-drop, All-nil}
-use Rattle.qm_math.specs.Fraction.{Fraction, HasPositiveDen, IsAtMost, IsSame, is_at_most, whole}
+use Rattle.qm_math.specs.Fraction.{Fraction, HasPositiveDen, is_at_most, whole}
 use Rattle.qm_math.proofs.FractionOrder.{at_most-same}
 use Rattle.qm_frac.specs.Checked.{Checked, and_then}
 use Rattle.qm_frac.specs.Lowest.{IsFrac}
 use Rattle.qm_model.specs.declared.range.Range.{Range}
 use Rattle.qm_model.specs.declared.row.Row.{Row}
 use Rattle.qm_model.specs.declared.game.Problem.{Problem}
-use Rattle.qm_model.specs.Boxes.{IsBox, IsEmptyRange}
+use Rattle.qm_model.specs.Boxes.{IsBox}
 use Rattle.qm_model.specs.Goals.{Goal, Any as AnyGoal, Above}
 use Rattle.qm_model.proofs.BoxLaws.{IsBox-length}
 use Rattle.qm_trees.specs.declared.combination.ComboValue.{ComboValue}
 use Rattle.qm_trees.specs.declared.policy.Policy.{Policy, Leaf, out-Policy}
 use Rattle.qm_trees.specs.declared.policy.Below.TheOpen as policy_node
 use Rattle.qm_trees.specs.declared.refutation.Refute.{Refute, Close}
-use Rattle.qm_trees.specs.Closing.{Closes, Excludes, closes_goal, closing, is_empty_range}
+use Rattle.qm_trees.specs.Closing.{Excludes, closes_goal, closing, is_empty_range}
 use Rattle.qm_trees.specs.Entries.{AreWellFormed, Combination, weighted_rows}
 use Rattle.qm_trees.specs.Evaluation.{bound_of, value_of}
 use Rattle.qm_trees.specs.Leaves.{leaf_objective, objective_reaches, row_holds, row_sum}
 use Rattle.qm_trees.specs.PolicyJudgement.{Layer}
 use Rattle.qm_trees.specs.PolicyRight.{IsEndInRange, IsLeafInRange, IsRightEnd}
 use Rattle.qm_trees.specs.RefuteRight.{AreNamed, IsCloseInRange}
-use Rattle.qm_trees.proofs.Lines.{bind_ok}
 use Rattle.qm_policy.proofs.Steps.{objective_reaches_by}
 use Rattle.qm_simplex.specs.declared.answers.LeavePlace.{LeavePlace}
 use Rattle.qm_simplex.specs.declared.answers.LeavePlace.TheVariants as place

@@ -1,22 +1,18 @@
 -- The leaf run step by step: the rows one after another, what follows them, and what is told of it.
-use Rattle.std.proofs.Common.{◌≡◌, ℕ, suc, ◌+◌, ◌<◌, ◌≤◌, Bool, true, false, List, [], ◌∷◌, length, get_or, drop, arith, refl, sym, ap, subst, ◌∙◌, Ok, Err}
+use Rattle.std.proofs.Common.{◌≡◌, ℕ, suc, ◌+◌, ◌<◌, ◌≤◌, List, [], ◌∷◌, length, get_or, drop, arith, refl, sym, ap, subst, ◌∙◌, Ok, Err}
 use Rattle.std.specs.Prelude.{IsOk, Result}
 use Rattle.std.proofs.lemmas.List.{drop_more, drop_all}
 use Rattle.qm_math.specs.Fraction.{Fraction}
-use Rattle.qm_frac.specs.declared.leaves.Leaves.{Leaves}
 use Rattle.qm_model.specs.declared.range.Range.{Range}
 use Rattle.qm_model.specs.declared.row.Row.{Row}
 use Rattle.qm_model.specs.declared.game.Problem.{Problem}
 use Rattle.qm_trees.specs.Entries.{Combination}
 use Rattle.qm_trees.specs.Leaves.{row_sum}
-use Rattle.qm_simplex.specs.declared.answers.LeavePlace.{LeavePlace}
 use Rattle.qm_simplex.specs.declared.answers.LeavePlace.TheVariants as place
 use Rattle.qm_simplex.specs.declared.answers.LpEnd.{LpEnd}
 use Rattle.qm_simplex.specs.declared.answers.LpEnd.TheVariants.{Best, Void}
 use Rattle.qm_simplex.specs.declared.answers.LpFault.{LpFault}
 use Rattle.qm_simplex.specs.declared.answers.LpFault.TheVariants as fault
-use Rattle.qm_simplex.specs.declared.answers.LpRun.{LpRun}
-use Rattle.qm_simplex.specs.declared.answers.RunLeaves.{RunLeaves}
 use Rattle.qm_simplex.specs.LeafRuns.{IsLeafRun, combination_at, evaluated, leaf_point, objective_at, rows_at}
 use Rattle.qm_simplex.specs.Listed.{IsRunBy, ListsRun}
 use Rattle.qm_simplex.specs.Runs.{Pivot}

@@ -14,3 +14,8 @@ pub mod BoxPrefixes
 pub mod OpenBoxes
 pub mod EndBoxes
 pub mod LeafEnds
+pub mod JournalGoesOn
+pub mod EnteredJournals
+pub mod SearchPrefixes
+pub mod Visits
+pub mod RootPlaces

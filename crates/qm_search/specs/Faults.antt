@@ -13,9 +13,9 @@ use Rattle.qm_search.specs.declared.fault.Solved.{Solved}
 use Rattle.qm_search.specs.Entering.{IsEnterable, MayHold}
 
 -- a lawful journal of this search within the budget
-pub record IsWithinBudget (P : Problem) (limit : ℕ) (J : Contents) : Type 0 where
-  pub limit : J.limit ≡ limit
-  pub few : length J.entries ≤ limit
+pub record IsWithinBudget (P : Problem) (budget : ℕ) (J : Contents) : Type 0 where
+  pub limit : J.limit ≡ budget
+  pub few : length J.entries ≤ budget
   pub lawful : IsLawfulWith P (MayHold P) J.entries
 
 -- the certificate passes and claims how the game ends, and the journal is lawful and within the budget

@@ -28,9 +28,9 @@ pub record IsFirst (P : Problem) (search : Search) : Type 0 where
   pub entries : search.journal.entries ≡ []
 
 -- the whole box and a universal play, once it was asked for
-pub record IsPlayed (P : Problem) (search : Search) (play : List ℤ) : Type 0 where
+pub record IsPlayed (P : Problem) (search : Search) (values : List ℤ) : Type 0 where
   pub sound : IsSound P
   pub bx : search.bx ≡ whole_box_of P.vars
-  pub play : IsPlay P play
+  pub play : IsPlay P values
   pub lawful : IsLawful P search.journal.entries
   pub asked : WentOn 0 None [] search.journal.entries

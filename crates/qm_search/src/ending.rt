@@ -59,10 +59,16 @@ fn root_outcome(
     ensures stop { IfErr result (IsRightStop game.now search.new.journal) }
     ensures journal { IsWithinBudget game.now search.old.journal.limit search.new.journal }
 {
+    // that the journal has no more entries than its limit, here and below
+    let _entries = search.journal.entries();
     let here = Place::at(game, 0);
     match judge(alloc, here, &search.bx, &all_values())? {
         Judged::Known(outcome) => Ok(outcome),
-        Judged::Open(_) => visit(alloc, here, search, 0, play, &all_values()),
+        Judged::Open(_) => {
+            let outcome = visit(alloc, here, search, 0, play, &all_values());
+            let _entries = search.journal.entries();
+            outcome
+        }
     }
 }
 
@@ -79,7 +85,10 @@ fn certificate(alloc: Global, game: &Game, search: &mut Search) -> Result<Certif
         parent: 0,
         value: None,
     };
-    match legal(alloc, game, &search.bx, named, &mut search.journal)? {
+    let answer = legal(alloc, game, &search.bx, named, &mut search.journal);
+    // that the journal has no more entries than its limit
+    let _entries = search.journal.entries();
+    match answer? {
         Legality::Illegal(tree) => Ok(Certificate::Empty(tree)),
         Legality::Completion(play) => {
             let outcome = root_outcome(alloc, game, search, play.as_slice())?;

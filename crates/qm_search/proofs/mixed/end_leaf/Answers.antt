@@ -1,6 +1,5 @@
 use Rattle.std.proofs.Common.{All, ap, arith, length, refl, subst}
 use Rattle.qm_frac.specs.Lowest.{IsFrac}
-use Rattle.qm_trees.specs.declared.policy.Policy.{Leaf}
 use Rattle.qm_trees.specs.declared.refutation.Refute.{Close}
 use Rattle.qm_search.proofs.LeafEnds.{best_end, best_long, void_end}
 use Rattle.qm_search.proofs.mixed.end_leaf.Goals as goal
