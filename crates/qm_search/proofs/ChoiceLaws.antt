@@ -1,5 +1,5 @@
 -- The choices of an existential variable: one more, and what all come to.
-use Rattle.std.proofs.Common.{◌≡◌, ℕ, ◌+◌, List, [], ◌∷◌, ◌++◌, map, drop, get_or, All, arith, refl, sym, ap, subst, ◌∙◌, ℤ, pos, ◌+ℤ◌, ◌≤ℤ◌, ◌<ℤ◌, Option, Some, None}
+use Rattle.std.proofs.Common.{◌≡◌, ℕ, ◌+◌, List, [], ◌∷◌, ◌++◌, map, drop, get_or, All, arith, sym, ap, subst, ◌∙◌, ℤ, pos, ◌+ℤ◌, ◌≤ℤ◌, ◌<ℤ◌, Option, Some, None}
 use Rattle.std.specs.Prelude.{slice_set}
 use Rattle.std.proofs.lemmas.Int.{ints}
 use Rattle.std.proofs.lemmas.List.Elements.{All-push}
@@ -11,7 +11,7 @@ use Rattle.qm_model.specs.declared.row.Row.{Row}
 use Rattle.qm_model.specs.declared.variable.Player.TheVariants.{Exists}
 use Rattle.qm_model.specs.declared.variable.Var.{Var}
 use Rattle.qm_model.specs.declared.game.Problem.{Problem}
-use Rattle.qm_model.specs.Goals.{Goal, Above, IsNoHarder, IsProper, Reaches}
+use Rattle.qm_model.specs.Goals.{Goal, Above, IsProper, Reaches}
 use Rattle.qm_model.specs.Ranges.{range_at, single}
 use Rattle.qm_trees.specs.declared.policy.Policy.{Policy, Choose, out-Policy}
 use Rattle.qm_trees.specs.declared.policy.Policy.TheVariants.{rolls-Choose}

@@ -2,7 +2,7 @@
 use Rattle.std.proofs.Common.{ℕ, List, ℤ, pos, ◌≤ℤ◌, ◌<ℤ◌, arith}
 use Rattle.std.proofs.lemmas.Int.{ints}
 use Rattle.qm_math.specs.Fraction.{Fraction, HasPositiveDen, IsBelow}
-use Rattle.qm_math.proofs.Compare.{below_at_most, below_at_most_weak}
+use Rattle.qm_math.proofs.Compare.{below_at_most_weak}
 use Rattle.qm_game.specs.declared.goal.Goal.{Goal as Floor}
 use Rattle.qm_game.specs.declared.goal.Goal.TheVariants as floor
 use Rattle.qm_game.specs.Goals.{goal_of}

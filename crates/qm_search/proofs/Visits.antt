@@ -1,5 +1,5 @@
 -- The steps of a visit: to a value behind its prefix, below that value, and on to the next.
-use Rattle.std.proofs.Common.{◌≡◌, ◌≢◌, ℕ, suc, ◌+◌, ◌<◌, Bool, true, false, List, [], ◌∷◌, ◌++◌, All, get_or, arith, ap, drop, length, length-drop, set, refl, sym, subst, ◌∙◌, ℤ, pos, ◌+ℤ◌}
+use Rattle.std.proofs.Common.{◌≡◌, ℕ, suc, ◌+◌, ◌<◌, true, false, List, [], ◌∷◌, ◌++◌, get_or, arith, drop, length, set, refl, sym, subst, ◌∙◌, ℤ, pos, ◌+ℤ◌}
 use Rattle.qm_math.specs.Ranges.{IsBetween}
 use Rattle.qm_model.specs.declared.range.Range.{Range}
 use Rattle.qm_model.specs.declared.variable.Player.TheVariants.{Exists, All as Universal}
@@ -15,7 +15,7 @@ use Rattle.qm_legal.specs.SearchSteps.{SetsNext}
 use Rattle.qm_search.specs.declared.state.Search.{Search}
 use Rattle.qm_search.specs.Entering.{IsEnterable}
 use Rattle.qm_search.specs.JudgeSteps.{MayBeVisited}
-use Rattle.qm_search.specs.PlaceSteps.{AreEntered, IsSearchBox, IsSearchPlace, prefix_before}
+use Rattle.qm_search.specs.PlaceSteps.{AreEntered, IsSearchBox, prefix_before}
 use Rattle.qm_search.specs.VisitSteps.{AreUntriedFrom, CompletesNext, IsNewPlace, IsNewValuePlace, IsUntried, IsValuePlace, IsVisitPlace, Moved, StandsFor, WentAt, WentAsked, WentBelow, game_entry}
 use Rattle.qm_search.proofs.EnteredJournals.{lawful_entered, new_untried, parent_within, stands_after_at, stands_after_below, stands_new}
 use Rattle.qm_search.proofs.JournalGoesOn.{at_below, at_then, below_then, entered_at, untried_after, went_nowhere}

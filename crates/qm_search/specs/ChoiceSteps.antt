@@ -1,6 +1,6 @@
 -- Steps of the search: the choices of an existential variable, as far as they have been tried.
 use Rattle.std.specs.Prelude.{ℕ, ◌+◌, ℤ, ◌≤ℤ◌, ◌<ℤ◌, List, All, map, slice_set, Option, Some, None}
-use Rattle.qm_math.specs.Fraction.{Fraction, HasPositiveDen}
+use Rattle.qm_math.specs.Fraction.{HasPositiveDen}
 use Rattle.qm_game.specs.declared.goal.Goal.{Goal}
 use Rattle.qm_game.specs.declared.goal.Goal.TheVariants.{Above}
 use Rattle.qm_game.specs.Goals.{goal_of}

@@ -1,5 +1,5 @@
 -- Steps of the search: where it begins and ends.
-use Rattle.std.specs.Prelude.{◌≡◌, ℤ, List, [], length, None}
+use Rattle.std.specs.Prelude.{◌≡◌, ℤ, List, [], None}
 use Rattle.qm_game.specs.declared.goal.Goal.TheVariants as goal
 use Rattle.qm_model.specs.declared.game.Problem.{Problem}
 use Rattle.qm_model.specs.Boxes.{whole_box_of}

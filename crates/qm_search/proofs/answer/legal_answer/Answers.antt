@@ -1,5 +1,4 @@
-use Rattle.std.proofs.Common.{◌+◌, drop, subst, set, Option, Some, None}
-use Rattle.std.specs.Prelude.{IsSomeAnd}
+use Rattle.std.proofs.Common.{◌+◌, drop, subst, set}
 use Rattle.std.proofs.lemmas.Int.{to_z-of_z}
 use mir.Syntax.{w64}
 use Rattle.qm_game.specs.Goals.{goal_of}

@@ -1,4 +1,4 @@
-use Rattle.std.proofs.Common.{rules, refl, sym, ◌≡◌, ◌+◌, ◌<◌, arith, ap, drop, length, subst, ◌∙◌, pos, ◌+ℤ◌, ◌≤ℤ◌, ◌<ℤ◌, to_z, set, []}
+use Rattle.std.proofs.Common.{rules, refl, sym, ◌≡◌, ◌+◌, arith, ap, drop, length, subst, pos, ◌+ℤ◌, ◌≤ℤ◌, ◌<ℤ◌, to_z, set, []}
 use Rattle.std.proofs.lemmas.Int.{ints, to_z-of_z}
 use Rattle.std.proofs.lemmas.List.{length-drop}
 use mir.Syntax.{w64}
@@ -11,13 +11,11 @@ use Rattle.qm_cover.proofs.Places.{put_back}
 use Rattle.qm_legal.specs.Queries.{IsRightLegality}
 use Rattle.qm_legal.proofs.Places.{some_next}
 use Rattle.qm_journal.specs.Contents.{Contents}
-use Rattle.qm_search.specs.declared.state.Search.{Search}
 use Rattle.qm_search.specs.AnswerSteps.{AreAnswers, IsRightAnswer, answer_window}
-use Rattle.qm_search.specs.ChoiceSteps.{AreChoices, IsTrial, choice_window}
+use Rattle.qm_search.specs.ChoiceSteps.{AreChoices, IsTrial}
 use Rattle.qm_search.specs.JudgeSteps.{IsJudged}
-use Rattle.qm_search.specs.OutcomeSteps.{IsOutcome}
 use Rattle.qm_search.specs.PlaceSteps.{IsSearchPlace, next_value}
-use Rattle.qm_search.specs.VisitSteps.{IsVisitPlace, Moved, WentAt, WentBelow}
+use Rattle.qm_search.specs.VisitSteps.{Moved, WentBelow}
 use Rattle.qm_search.proofs.AnswerLaws.{answer_window_proper, some_answered}
 use Rattle.qm_search.proofs.ChoiceLaws.{choice_window_proper}
 use Rattle.qm_search.proofs.Completions.{begins_here, completes_answer, completes_choice}

@@ -1,4 +1,4 @@
-use Rattle.std.proofs.Common.{◌≡◌, ◌+◌, ◌*◌, [], drop, length, ◌+ℤ◌, ◌≤ℤ◌, ◌<ℤ◌, pos}
+use Rattle.std.proofs.Common.{◌+◌, ◌*◌, [], drop, length, ◌+ℤ◌, ◌≤ℤ◌, ◌<ℤ◌, pos}
 use Rattle.qm_model.specs.Ranges.{range_at}
 use Rattle.qm_search.specs.AnswerSteps.{AreAnswers}
 use Rattle.qm_search.specs.ChoiceSteps.{AreChoices}

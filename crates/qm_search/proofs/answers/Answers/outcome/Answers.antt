@@ -1,4 +1,3 @@
-use Rattle.std.proofs.Common.{subst, sym, ◌∙◌}
 use Rattle.qm_search.proofs.AnswerLaws.{over_outcome, worst_in_window}
 use Rattle.qm_search.proofs.answers.Answers.outcome.Goals as goal
 
