@@ -1,3 +1,4 @@
+use crate::certificates::certificate_of;
 use crate::forms::normal_of;
 use crate::fractions::fraction_of;
 use crate::lines::{line_end_of, place_of};
@@ -20,6 +21,7 @@ pub fn answer(alloc: Global, line: &str) -> Result<String, AllocError> {
         "normal" => normal_of(alloc, rest),
         "made" => made_of(alloc, rest),
         "bytes" => bytes_made_of(alloc, rest),
+        "certificate" => certificate_of(alloc, rest),
         "report" => report_of(alloc, rest),
         "pieces" => report_in_pieces(alloc, rest),
         "read" => reading_of(alloc, rest),

@@ -6,6 +6,7 @@
 //! `tree`, its `normal` form, its first `fault` or `ok`, as `tokens "2x<=3"`; the end of a `line`, or the `place` of a byte,
 //! as `line 0 "ab\n"`; the number that it spells as `decimal`, as `fraction` or as `whole` number.
 //! Of a number and a size: the text that is `made` of them, and its `bytes`, as `made 1 3`.
+//! Of a certificate's text: what is read of it for a game, as `certificate "MAX 3 ST ORDER END" | "optimal 3\n"`.
 //! Of the top call: the status and the text of its `report`, as `report solve f | "MAX x"`, and so in `pieces` of some
 //! bytes, where a read or a write may fail, as `pieces 7 3 0 solve f | "MAX x"`. ` /` stands where a line ends.
 //! Of sources and sinks in memory: what comes of a `read` in pieces, what its `calls` give, and what a sink takes that a
@@ -13,6 +14,7 @@
 #![tactic(auto)]
 
 mod answer;
+mod certificates;
 mod forms;
 mod fractions;
 mod lines;

@@ -25,4 +25,4 @@ pub use laws::{
     different_certificates_have_different_texts,
     different_well_formed_certificates_have_different_texts, passing_certificates_are_well_formed,
 };
-pub use writer::write;
+pub use writer::{claimed, write};

@@ -53,7 +53,7 @@ fn write_onto(game: &Game, certificate: &Certificate, out: &mut List<u8>) -> Res
 
 /// A value of the maximised problem, in the sense of the file.
 #[tactic(auto, unfolding(qm_math::specs::Arithmetic::negated))]
-fn claimed(sense: Sense, value: Frac) -> Frac
+pub fn claimed(sense: Sense, value: Frac) -> Frac
     ensures { result ≡ claimed sense value }
 {
     match sense {

@@ -54,6 +54,14 @@ impl Combo {
         }
     }
 
+    /// The combination of these entries.
+    pub fn of(objective: bool, entries: List<Entry>) -> Combo
+        requires { AreWellFormed entries }
+        ensures { result ≡ record { objective = objective; entries = entries } }
+    {
+        Combo { objective, entries }
+    }
+
     /// Puts an entry last, which is the place of its row. `Memory` leaves the combination as it was.
     pub fn push(&mut self, entry: Entry) -> Result<(), Memory>
         requires { AreEntries (self.old.entries ++ entry ∷ []) }

@@ -1,0 +1,2 @@
+pub mod SetBoxes
+pub mod Along

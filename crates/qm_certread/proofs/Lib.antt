@@ -1,0 +1,16 @@
+mod BodyRead
+mod Cuts
+mod Decoded
+mod EmptyRead
+mod EntryForms
+mod Moved
+mod NextLines
+mod PolicyRead
+mod Positions
+mod Quotients
+mod RefuteRead
+mod RowOrder
+mod RowsSaid
+mod TreesRead
+mod WholeRead
+mod WordCuts

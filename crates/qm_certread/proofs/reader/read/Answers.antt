@@ -1,0 +1,20 @@
+use Rattle.qm_certread.proofs.WholeRead.{body_fails, claim_fails, end_result}
+use Rattle.qm_certread.proofs.reader.read.Goals as goal
+
+pub returns-in_err-claim-clause-form : goal.returns-in_err-claim-clause-form
+returns-in_err-claim-clause-form c = claim_fails c.args.game.now c.args.text.now c.from_residual.result _ c.from_residual.ensures.1 c.in_err-claim.ensures.err
+
+pub returns-in_err-certificate-clause-form : goal.returns-in_err-certificate-clause-form
+returns-in_err-certificate-clause-form c =
+    body_fails c.args.game.now c.args.text.now c.in_ok-claim.claim c.next_claim.new.cursor c.from_residual-in_err-certificate.result _ c.from_residual-in_err-certificate.ensures.1
+    c.in_ok-claim.ensures.ok (rw c.problem-problem.ensures.value at c.in_err-certificate.ensures.err)
+
+pub returns-clause-form : goal.returns-clause-form
+returns-clause-form c =
+    (end_result c.args.game.now c.args.text.now c.in_ok-claim.claim c.in_ok-certificate.certificate c.next_claim.new.cursor c.read_body.new.cursor c.ended.result c.in_ok-claim.ensures.ok
+    (rw c.problem-problem.ensures.value at c.in_ok-certificate.ensures.claim) (rw c.problem-problem.ensures.value at c.in_ok-certificate.ensures.ok) c.ended.ensures.ok c.ended.ensures.err).0
+
+pub returns-clause-said : goal.returns-clause-said
+returns-clause-said c =
+    (end_result c.args.game.now c.args.text.now c.in_ok-claim.claim c.in_ok-certificate.certificate c.next_claim.new.cursor c.read_body.new.cursor c.ended.result c.in_ok-claim.ensures.ok
+    (rw c.problem-problem.ensures.value at c.in_ok-certificate.ensures.claim) (rw c.problem-problem.ensures.value at c.in_ok-certificate.ensures.ok) c.ended.ensures.ok c.ended.ensures.err).1

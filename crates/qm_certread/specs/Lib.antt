@@ -1,0 +1,10 @@
+pub mod Pieces
+pub mod Spelling
+pub mod Nodes
+pub mod Dues
+pub mod Forms
+pub mod NodesOf
+pub mod ReadSteps
+pub mod Reading
+pub mod WordSteps
+pub mod SaidSteps

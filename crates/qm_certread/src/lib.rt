@@ -1,0 +1,24 @@
+//! Certificates that are read: the form of their text, and the first line that isn't in form.
+//!
+//! `read` takes a text and a game and gives the certificate whose text it is, or the fault of the first line that isn't
+//! in form: `Text` or `Number` with its number, from 1. What is in form is a definition (`Forms`): what is due where
+//! (`Dues`), what the words of a line say there (`Spelling`), and which rule they break. The nodes that the lines say
+//! (`Nodes`) are those of the certificate (`NodesOf`).
+#![tactic(auto)]
+
+mod cursor;
+mod empty_reader;
+mod fault;
+mod lists;
+mod next;
+mod order;
+mod places;
+mod policy_reader;
+mod reader;
+mod refute_reader;
+mod said;
+mod spelling;
+mod words;
+
+pub use fault::CertFault;
+pub use reader::read;
