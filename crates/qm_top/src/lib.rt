@@ -2,8 +2,9 @@
 //! It needs sources and a sink of which nothing is known but that they pass bytes and count their faults. It answers the
 //! exit status; the sink took exactly the text that goes with it, or failed and took a part of one.
 //! What may be answered is one relation of words, input, status and text (`specs/Answers.antt`): a certificate that passes
-//! the judgement of `qm_certfile` and what it claims is how the problem ends, or the line of `specs/FaultLines.antt` that
-//! says why there is no problem (`specs/Refusals.antt`) or no answer. Words and bytes decide which of these comes, but for
+//! the judgement of `qm_certfile` and what it claims is how the problem ends, a lawful journal that spends the budget
+//! (`specs/SpentLines.antt`), or the line of `specs/FaultLines.antt` that says why there is no problem
+//! (`specs/Refusals.antt`) or no answer. Words and bytes decide which of these comes, but for
 //! want of memory (`specs/Completeness.antt`), as any bytes state a problem or are refused, and not both (`stated_or_refused`).
 //! The text of a certificate that is printed has no other certificate that passes (`a_printed_text_has_one_certificate`).
 //! `stated_by` is its first half alone: the game that a text states, or the report that refuses it

@@ -1,4 +1,4 @@
-//! The program: `qyas solve FILE`.
+//! The program: `qyas solve FILE [--nodes N]`.
 //! Its words, the files that they name and the system's streams go to `run` of `qm_top`, which does all the rest, and whose
 //! answer is the exit status. A file is opened only when `run` reads it, so wrong words open none. Where the system gives
 //! no words or no memory for them, the program says so by a status of its own.
