@@ -1,5 +1,5 @@
 -- The entries of a lawful journal have different numbers below what is claimed.
-use Rattle.std.proofs.Common.{◌≡◌, ◌≢◌, ◌∙◌, ⊎_elim, sym, refl, ap, subst, ℕ, zero, suc, ◌+◌, ◌*◌, ◌-◌, ◌<◌, ◌≤◌, arith, Bool, true, false, if◌then◌else◌, List, [], ◌∷◌, ◌++◌, length, map, get_or, ℤ}
+use Rattle.std.proofs.Common.{◌≡◌, ◌≢◌, ◌∙◌, ⊎_elim, sym, refl, ap, subst, ℕ, zero, suc, ◌+◌, ◌*◌, ◌-◌, ◌<◌, ◌≤◌, arith, mul-le-mul_right, Bool, true, false, if◌then◌else◌, List, [], ◌∷◌, ◌++◌, length, map, get_or, ℤ}
 use Rattle.std.proofs.lemmas.List.{append_assoc, append_cancel_left, get_or-map}
 use Rattle.std.proofs.lemmas.List.FromFn.{get_or-range_with_len, length-map-range_with_len, length-range_with_len}
 use Rattle.std.specs.List.{range_with_len}
@@ -18,7 +18,7 @@ use Rattle.qm_journal.proofs.Places.{some_at-of}
 use Rattle.qm_journal.proofs.Growing.{position_of-start}
 use Rattle.qm_journal.proofs.Entries.{Stands, entry_at, nowhere, stands_at}
 use Rattle.qm_journal.proofs.Apart.{asked_apart, asked_at, game_at, games_apart, same_positions}
-use Rattle.qm_journal.proofs.PrefixPlaces.{place, place-below, place-one, place-snoc, prefix_count-some, row-below, row-one}
+use Rattle.qm_journal.proofs.PrefixPlaces.{place, place-below, place-one, place-snoc, prefix_count-some, row-one}
 
 -- a list of values that isn't empty, and its place
 record HasPlace (xs : List Var) (vs : List ℤ) : Type 0 where
@@ -87,9 +87,9 @@ step_below : (P : Problem) (f u : ℕ) (J : List JEntry) (i : ℕ) → AreCounts
     → place (whole_vars P) (position_of J (suc i)).prefix * u + (place (universal_vars P) (universal_values P (position_of J (suc i))) - 1) < suc f * u
 step_below P f u J i counts lawful h s =
     let p = position_of J (suc i) in
-    row-below (place (whole_vars P) p.prefix) (place (universal_vars P) (universal_values P p) - 1) (suc f) u
-    (omega (arith, counts.wholes, place-below (whole_vars P) p.prefix (asked_prefix P J (suc i) (suc i) lawful (omega arith) h)))
-    (others_below u (universal_vars P) (universal_values P p) counts.universals (step_place P J i s))
+    let asked : place (whole_vars P) p.prefix < suc f = omega (arith, counts.wholes, place-below (whole_vars P) p.prefix (asked_prefix P J (suc i) (suc i) lawful (omega arith) h)) in
+    let rows : suc (place (whole_vars P) p.prefix) * u ≤ suc f * u = mul-le-mul_right u asked in
+    omega (arith, rows, others_below u (universal_vars P) (universal_values P p) counts.universals (step_place P J i s))
 
 -- ---- which entries may be parents
 

@@ -14,23 +14,10 @@ place [] (v ∷ vs) = 0
 place (x ∷ xs) (v ∷ vs) = 1 + (count_of (v -ℤ x.low) * prefix_count xs + place xs vs)
 
 -- a row of a table and a place in it
-pub row-below : (q p n m : ℕ) → q < n → p < m → q * m + p < n * m
-row-below q p n m h k =
-    let rows : suc q * m ≤ n * m = mul-le-mul_right m h in
-    omega (arith, rows)
-
 pub row-one : (q p r s m : ℕ) → p < m → s < m → q * m + p ≡ r * m + s → (q ≡ r) × (p ≡ s)
 row-one q p r s m h k e =
     let rows : q ≡ r = sym (div-mul-add q m p h) ∙ ap (λ n. n / m) e ∙ div-mul-add r m s k in
     (rows, omega (arith, e, ap (λ n. n * m) rows))
-
--- the place in one range
-offset-below : (low high v : ℤ) → IsBetween low high v → count_of (v -ℤ low) < size_of low high
-offset-below low high v h = omega (arith, place_within-below ((low, high) ∷ []) (v ∷ []) (h, tt))
-
-offset-one : (low high v w : ℤ) → IsBetween low high v → IsBetween low high w → count_of (v -ℤ low) ≡ count_of (w -ℤ low) → v ≡ w
-offset-one low high v w h k e =
-    cons-first v w [] [] (place_within-one ((low, high) ∷ []) (v ∷ []) (w ∷ []) (h, tt) (k, tt) (ap (λ n. n * 1 + 0) e))
 
 pub prefix_count-some : (xs : List Var) → 0 < prefix_count xs
 prefix_count-some [] = omega arith
@@ -40,7 +27,9 @@ pub place-below : (xs : List Var) (vs : List ℤ) → BeginWithin xs vs → plac
 place-below xs [] h = prefix_count-some xs
 place-below [] (v ∷ vs) h = absurd h
 place-below (x ∷ xs) (v ∷ vs) h =
-    omega (arith, row-below (count_of (v -ℤ x.low)) (place xs vs) (size_of x.low x.high) (prefix_count xs) (offset-below x.low x.high v h.0) (place-below xs vs h.1))
+    let first : count_of (v -ℤ x.low) < size_of x.low x.high = omega (arith, place_within-below ((x.low, x.high) ∷ []) (v ∷ []) (h.0, tt)) in
+    let rows : suc (count_of (v -ℤ x.low)) * prefix_count xs ≤ size_of x.low x.high * prefix_count xs = mul-le-mul_right (prefix_count xs) first in
+    omega (arith, rows, place-below xs vs h.1)
 
 -- a place is that of one list
 pub place-one : (xs : List Var) (vs ws : List ℤ) → BeginWithin xs vs → BeginWithin xs ws → place xs vs ≡ place xs ws → vs ≡ ws
@@ -52,7 +41,8 @@ place-one (x ∷ xs) (v ∷ vs) [] h k e = absurd (omega (arith, e))
 place-one (x ∷ xs) (v ∷ vs) (w ∷ ws) h k e =
     let both = row-one (count_of (v -ℤ x.low)) (place xs vs) (count_of (w -ℤ x.low)) (place xs ws) (prefix_count xs)
     (place-below xs vs h.1) (place-below xs ws k.1) (omega (arith, e)) in
-    ap₂ (λ (z : ℤ) (zs : List ℤ). z ∷ zs) (offset-one x.low x.high v w h.0 k.0 both.0) (place-one xs vs ws h.1 k.1 both.1)
+    let first = cons-first v w [] [] (place_within-one ((x.low, x.high) ∷ []) (v ∷ []) (w ∷ []) (h.0, tt) (k.0, tt) (ap (λ n. n * 1 + 0) both.0)) in
+    ap₂ (λ (z : ℤ) (zs : List ℤ). z ∷ zs) first (place-one xs vs ws h.1 k.1 both.1)
 
 -- only the empty list has the place 0
 pub place-snoc : (xs : List Var) (vs : List ℤ) (v : ℤ) → BeginWithin xs (vs ++ v ∷ []) → 0 < place xs (vs ++ v ∷ [])
