@@ -45,7 +45,8 @@ within_with (x ∷ xs) (p ∷ prefix) v turn before play = (
       (λ universal. within_with xs prefix v turn before.1 (rw (is_for_all x universal) at play).1),
 )
 
-query_of_game : (J : List JEntry) (n : ℕ) → IsParent Game J n → IsParent Query J n
+-- what may have a game entry may have a query
+pub query_of_game : (J : List JEntry) (n : ℕ) → IsParent Game J n → IsParent Query J n
 query_of_game J zero h = tt
 query_of_game J (suc b) h = h
 

@@ -59,7 +59,8 @@ answer_judged P v rest depth bx policy parts slice is same = by rest (ap out-Pol
 
 -- ---- leaves
 
-out-of-Leaf : (point : List Fraction) → out-Policy (Leaf point) ≡ node.Leaf point
+-- a policy that ends at once
+pub out-of-Leaf : (point : List Fraction) → out-Policy (Leaf point) ≡ node.Leaf point
 out-of-Leaf point = ap out-Policy (sym (rolls-Leaf point)) ∙ out-roll-Policy (node.Leaf point)
 
 -- a leaf with a value for each continuous variable, each a fraction of the program

@@ -14,6 +14,7 @@ use Rattle.qm_journal.proofs.Answering.{game-stays}
 use Rattle.qm_journal.proofs.Entries.{nowhere}
 use Rattle.qm_journal.proofs.Growing.{IsLawful-enter, IsNext-at, IsOfKind-within, IsParent-append, IsParent-within, position_of-new, position_of-old, position_of-start}
 use Rattle.qm_journal.proofs.Places.{some_at-get, some_at-of}
+use Rattle.qm_legal.proofs.Asking.{query_of_game}
 use Rattle.qm_search.specs.Entering.{IsEnterable, MayHold}
 use Rattle.qm_search.specs.declared.state.Search.{Search}
 use Rattle.qm_search.specs.VisitSteps.{IsNotEntered, IsUntried, Moved, StandsFor, WentAsked, WentAt, WentBelow, game_entry}
@@ -140,14 +141,9 @@ first_untried J went v = record {
 
 -- ---- questions
 
--- what may have a game entry may have a query
-query_parent : (J : List JEntry) (n : ℕ) → IsParent Game J n → IsParent Query J n
-query_parent J zero h = tt
-query_parent J (suc b) h = h
-
 pub new_question : (P : Problem) (J : List JEntry) (entry : ℕ) (prefix : List ℤ) (v : ℤ) → StandsFor J entry prefix → IsUniversalTurn P prefix → All (λ e. e ≢ query_entry entry v) J → IsNewQuestion P J entry (Some v)
 new_question P J entry prefix v stands turn new =
-    (query_parent J entry stands.parent, subst (λ (p : Position). IsUniversalTurn P p.prefix) (sym stands.is) turn, new)
+    (query_of_game J entry stands.parent, subst (λ (p : Position). IsUniversalTurn P p.prefix) (sym stands.is) turn, new)
 
 -- the journal of a search goes on by the answer
 pub moved_asked : (P : Problem) (entry : ℕ) (v : ℤ) (old new : Search) → IsLawfulWith P (MayHold P) old.journal.entries → new.bx ≡ old.bx → new.journal.limit ≡ old.journal.limit → IsLawful P new.journal.entries

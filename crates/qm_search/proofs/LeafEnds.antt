@@ -37,7 +37,7 @@ use Rattle.qm_search.specs.LeafSteps.{IsLawfulEnd, IsLeafEnd}
 use Rattle.qm_search.specs.OutcomeSteps.{IsReached, Refutes, Secures}
 use Rattle.qm_search.specs.PlaceSteps.{IsEndPlace}
 use Rattle.qm_search.proofs.DeadRows.{refutes_from}
-use Rattle.qm_search.proofs.SetLeaves.{ends_at_once}
+use Rattle.qm_policy.proofs.Steps.{out-of-Leaf}
 
 -- ---- where no operation leaves
 
@@ -107,7 +107,7 @@ module _ (P : Problem) (bx : List Range) (place : IsEndPlace P bx) (depth : ℕ)
         → Secures P [] depth bx value policy
     leaf_secures policy fracs ends rows objective =
         let y = leaf_point P point in
-        let layer : policy_node.Leaf y ≡ out-Policy policy = sym (ap out-Policy ends ∙ ends_at_once y) in
+        let layer : policy_node.Leaf y ≡ out-Policy policy = sym (ap out-Policy ends ∙ out-of-Leaf y) in
         let right = leaf_is_right P bx point best.feasible.inside short place.box.set value place.box.sound place.box.others best.feasible.rows positive best.reached in
         let range : IsLeafInRange P value bx y = (rows_ok P bx y 1 P.rows rows, objective_ok P bx y value objective) in
         record {

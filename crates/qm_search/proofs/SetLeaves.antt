@@ -13,8 +13,6 @@ use Rattle.qm_game.specs.Dead.{IsFirstDead}
 use Rattle.qm_trees.specs.declared.combination.ComboValue.TheVariants.{Bound}
 use Rattle.qm_trees.specs.declared.combination.Entry.{Entry}
 use Rattle.qm_trees.specs.declared.policy.Policy.{Policy, Leaf, out-Policy}
-use Rattle.qm_trees.specs.declared.policy.Policy.TheVariants.{rolls-Leaf}
-use Rattle.qm_trees.specs.declared.policy.Below.TheViews.{out-roll-Policy}
 use Rattle.qm_trees.specs.declared.policy.Below.TheOpen as node
 use Rattle.qm_trees.specs.declared.refutation.Refute.{Refute, Close}
 use Rattle.qm_trees.specs.Entries.{Weighted}
@@ -26,14 +24,11 @@ use Rattle.qm_trees.proofs.CombinationValues.{bounds}
 use Rattle.qm_trees.proofs.LeafLines.{leaf_of_passes}
 use Rattle.qm_trees.proofs.WholeValues.{objective_closes}
 use Rattle.qm_trees.proofs.WholeLeaves.{whole_leaf_passes}
+use Rattle.qm_policy.proofs.Steps.{out-of-Leaf}
 use Rattle.qm_search.specs.OutcomeSteps.{Secures, Refutes}
 use Rattle.qm_search.specs.PlaceSteps.{IsSingle}
 use Rattle.qm_search.proofs.WholeBound.{bound_is_objective}
 use Rattle.qm_search.proofs.DeadRows.{refutes_by}
-
--- a policy that ends at once
-pub ends_at_once : (point : List Fraction) → out-Policy (Leaf point) ≡ node.Leaf point
-ends_at_once point = ap out-Policy (sym (rolls-Leaf point)) ∙ out-roll-Policy (node.Leaf point)
 
 module _ (P : Problem) (depth : ℕ) (bx : List Range) (sound : IsSound P) (box : IsBox P.vars bx) (b : Fraction) (is : value_of P true [] bx ≡ Ok (Bound b)) where
   bound_den : 0 < b.den
@@ -42,7 +37,7 @@ module _ (P : Problem) (depth : ℕ) (bx : List Range) (sound : IsSound P) (box 
   -- the leaf without continuous values reaches the bound of the objective
   pub leaf_secures : (policy : Policy) → P.wholes ≡ length P.vars → All IsSingle bx → IsFirstDead P bx None → policy ≡ Leaf [] → Secures P [] depth bx b policy
   leaf_secures policy all_whole set alive ends =
-      let layer : node.Leaf [] ≡ out-Policy policy = sym (ap out-Policy ends ∙ ends_at_once []) in
+      let layer : node.Leaf [] ≡ out-Policy policy = sym (ap out-Policy ends ∙ out-of-Leaf []) in
       let passes : leaf_passes P b bx [] ≡ Ok true =
       subst (λ (v : Fraction). leaf_passes P v bx [] ≡ Ok true) (sym (bound_is_objective P bx sound box b is)) (whole_leaf_passes P bx sound box all_whole set alive.0) in
       let leaf = leaf_of_passes P b bx [] sound.scale_positive bound_den passes in

@@ -7,7 +7,7 @@ use Rattle.qm_model.specs.declared.variable.Var.{Var}
 use Rattle.qm_model.specs.declared.game.Problem.{Problem}
 use Rattle.qm_model.specs.Plays.{is_universal, whole_vars}
 use Rattle.qm_model.specs.Ranges.{range_at, single}
-use Rattle.qm_model.proofs.Players.{by_player, is_for_all, not_universal}
+use Rattle.qm_model.proofs.Players.{exists_of, universal_of}
 use Rattle.qm_game.proofs.NextVariables.{next_in_box}
 use Rattle.qm_journal.specs.declared.entry.JEntry.{JEntry}
 use Rattle.qm_journal.specs.Contents.{Contents}
@@ -143,16 +143,10 @@ module _ (P : Problem) (rest : List Var) (depth : ℕ) (search : Search) (entry 
 
 -- ---- whose turn it is
 
-existential : (x : Var) → is_universal x ≡ false → x.player ≡ Exists
-existential x test = by_player x (x.player ≡ Exists) (λ e. e) (λ u. let both : true ≡ false = sym (is_for_all x u) ∙ test in cc)
-
-universal : (x : Var) → is_universal x ≡ true → x.player ≡ Universal
-universal x test = by_player x (x.player ≡ Universal) (λ e. let both : false ≡ true = sym (not_universal x e) ∙ test in cc) (λ u. u)
-
 pub existential_next : (rest : List Var) (x : Var) → 0 < length rest → is_universal (get_or rest 0 x) ≡ false → SetsNext Exists rest
 existential_next [] x some test = absurd (omega (arith, some))
-existential_next (y ∷ later) x some test = existential y test
+existential_next (y ∷ later) x some test = exists_of y test
 
 pub universal_next : (rest : List Var) (x : Var) → 0 < length rest → is_universal (get_or rest 0 x) ≡ true → SetsNext Universal rest
 universal_next [] x some test = absurd (omega (arith, some))
-universal_next (y ∷ later) x some test = universal y test
+universal_next (y ∷ later) x some test = universal_of y test
