@@ -9,6 +9,7 @@
 mod cursor;
 mod empty_reader;
 mod fault;
+mod laws;
 mod lists;
 mod next;
 mod order;
@@ -21,4 +22,5 @@ mod spelling;
 mod words;
 
 pub use fault::CertFault;
+pub use laws::texts_in_form_are_those_of_certificates_that_fit;
 pub use reader::read;

@@ -1,3 +1,4 @@
+use Rattle.qm_certread.proofs.FineTexts.{read_fits, read_text}
 use Rattle.qm_certread.proofs.WholeRead.{body_fails, claim_fails, end_result}
 use Rattle.qm_certread.proofs.reader.read.Goals as goal
 
@@ -14,7 +15,14 @@ returns-clause-form c =
     (end_result c.args.game.now c.args.text.now c.in_ok-claim.claim c.in_ok-certificate.certificate c.next_claim.new.cursor c.read_body.new.cursor c.ended.result c.in_ok-claim.ensures.ok
     (rw c.problem-problem.ensures.value at c.in_ok-certificate.ensures.claim) (rw c.problem-problem.ensures.value at c.in_ok-certificate.ensures.ok) c.ended.ensures.ok c.ended.ensures.err).0
 
-pub returns-clause-said : goal.returns-clause-said
-returns-clause-said c =
+pub returns-clause-text : goal.returns-clause-text
+returns-clause-text c =
+    read_text c.args.game.now c.args.text.now c.ended.result (rw c.problem-problem.ensures.value at c.problem-problem.ensures.sound)
+    (end_result c.args.game.now c.args.text.now c.in_ok-claim.claim c.in_ok-certificate.certificate c.next_claim.new.cursor c.read_body.new.cursor c.ended.result c.in_ok-claim.ensures.ok
+    (rw c.problem-problem.ensures.value at c.in_ok-certificate.ensures.claim) (rw c.problem-problem.ensures.value at c.in_ok-certificate.ensures.ok) c.ended.ensures.ok c.ended.ensures.err).1
+
+pub returns-clause-fits : goal.returns-clause-fits
+returns-clause-fits c =
+    read_fits c.args.game.now c.args.text.now c.ended.result (rw c.problem-problem.ensures.value at c.problem-problem.ensures.sound)
     (end_result c.args.game.now c.args.text.now c.in_ok-claim.claim c.in_ok-certificate.certificate c.next_claim.new.cursor c.read_body.new.cursor c.ended.result c.in_ok-claim.ensures.ok
     (rw c.problem-problem.ensures.value at c.in_ok-certificate.ensures.claim) (rw c.problem-problem.ensures.value at c.in_ok-certificate.ensures.ok) c.ended.ensures.ok c.ended.ensures.err).1
