@@ -3,11 +3,11 @@ mod Bounds
 mod CertificateTexts
 mod DifferentTexts
 mod EmptyTold
-mod LineSplits
+pub mod LineSplits
 pub mod LineTexts
 mod LowestValues
 mod NearRanges
-mod NumberWords
+pub mod NumberWords
 pub mod PassingForms
 mod Pieces
 mod PolicyTold

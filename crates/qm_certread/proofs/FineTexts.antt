@@ -1,6 +1,6 @@
 -- A text in form is a certificate's.
 use Rattle.std.proofs.Common.{◌≡◌, ℕ, List, [], ◌∷◌, ◌++◌, append_assoc, ◌<◌, ◌^◌, length, map, ℤ, Result, Ok, Err, inl, inr, refl, sym, ap, ap₂, ◌∙◌, subst, arith}
-use Rattle.std.specs.Prelude.{IfOk, ◌⊎◌}
+use Rattle.std.specs.Prelude.{IfOk, ◌⊎◌, ◌↔◌}
 use Rattle.std.proofs.lemmas.List.{length-take}
 use Rattle.std.proofs.lemmas.Result.{IfOk-weaker}
 use Rattle.qm_math.specs.Fraction.{Fraction}
@@ -25,7 +25,9 @@ use Rattle.qm_certread.specs.NodesOf.{empty_nodes, nodes_of, policy_nodes, refut
 use Rattle.qm_certread.specs.Reading.{AreSaid, IsInForm, IsOfCertificate}
 use Rattle.qm_certread.specs.Fits.{AreFit, Fits}
 use Rattle.qm_certread.proofs.BodyRead.{claimed_twice}
-use Rattle.qm_certread.proofs.TextLines.{said_fit, whole_fits, whole_text}
+use Rattle.qm_certread.proofs.TextLines.{said_fit, text_same, whole_fits, whole_text}
+use Rattle.qm_certread.proofs.TextSplits.{fit_said}
+use Rattle.qm_certread.proofs.WholeRead.{said_form}
 use Rattle.qm_certread.proofs.Rebuilt.{empty_from, policy_from, refute_from}
 
 -- ---- lines in form say nodes
@@ -173,3 +175,19 @@ read_text {E} P text r sound h =
 pub read_fits : {E : Type 0} (P : Problem) (text : List ℕ) (r : Result Certificate E) → IsSound P → IfOk r (λ c. AreSaid first_style P (Claimed ∷ []) (nodes_of first_style P c) (lines_of text)) → IfOk r (λ c. Fits P c)
 read_fits {E} P text r sound h =
     IfOk-weaker r (λ c. AreSaid first_style P (Claimed ∷ []) (nodes_of first_style P c) (lines_of text)) (λ c. Fits P c) (λ c s. whole_fits P (few_whole P sound) text c s) h
+
+-- ---- the text of a certificate that fits
+
+fit_is_said : (P : Problem) (text : List ℕ) (c : Certificate) → length (whole_vars P) < 2 ^ 32 → Fits P c → certificate_text P c ≡ text → AreSaid first_style P (Claimed ∷ []) (nodes_of first_style P c) (lines_of text)
+fit_is_said P text c few fits is =
+    subst (λ t. AreSaid first_style P (Claimed ∷ []) (nodes_of first_style P c) (lines_of t)) (sym (text_same P c) ∙ is) (fit_said P few (nodes_of first_style P c) fits)
+
+said_in_form : (P : Problem) (text : List ℕ) (nodes : List Node) → AreSaid first_style P (Claimed ∷ []) nodes (lines_of text) → IsInForm P text
+unfolding certificate_form
+said_in_form P text nodes h = (length nodes, said_form P (Claimed ∷ []) nodes (lines_of text) h)
+
+pub in_form : (P : Problem) (text : List ℕ) → IsSound P → IsOfCertificate P text → IsInForm P text
+in_form P text sound (c, fits, is) = said_in_form P text (nodes_of first_style P c) (fit_is_said P text c (few_whole P sound) fits is)
+
+pub form_law : (P : Problem) (text : List ℕ) → IsSound P → IsInForm P text ↔ IsOfCertificate P text
+form_law P text sound = (formed P text sound, in_form P text sound)

@@ -17,6 +17,7 @@ mod RefuteRead
 mod RowOrder
 mod RowsSaid
 mod TextLines
+mod TextSplits
 mod TreeNodes
 mod TreesRead
 mod WholeRead
