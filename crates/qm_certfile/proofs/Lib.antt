@@ -1,7 +1,7 @@
 pub mod ToldEndings
-mod Bounds
+pub mod Bounds
 mod CertificateTexts
-mod DifferentTexts
+pub mod DifferentTexts
 mod EmptyTold
 pub mod LineSplits
 pub mod LineTexts
@@ -9,7 +9,7 @@ mod LowestValues
 mod NearRanges
 pub mod NumberWords
 pub mod PassingForms
-mod Pieces
+pub mod Pieces
 mod PolicyTold
 mod RefuteTold
 mod RightPieces

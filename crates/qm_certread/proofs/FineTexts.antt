@@ -1,5 +1,5 @@
 -- A text in form is a certificate's.
-use Rattle.std.proofs.Common.{◌≡◌, ℕ, List, [], ◌∷◌, ◌++◌, append_assoc, ◌<◌, ◌^◌, length, map, ℤ, Result, Ok, Err, inl, inr, refl, sym, ap, ap₂, ◌∙◌, subst, arith}
+use Rattle.std.proofs.Common.{◌≡◌, ℕ, List, [], ◌∷◌, ◌++◌, append_assoc, ◌+◌, ◌<◌, ◌^◌, length, map, ℤ, Result, Ok, Err, inl, inr, refl, sym, ap, ap₂, ◌∙◌, subst, arith}
 use Rattle.std.specs.Prelude.{IfOk, ◌⊎◌, ◌↔◌}
 use Rattle.std.proofs.lemmas.List.{length-take}
 use Rattle.std.proofs.lemmas.Result.{IfOk-weaker}
@@ -8,6 +8,7 @@ use Rattle.qm_frac.specs.Lowest.{IsFrac}
 use Rattle.qm_model.specs.declared.game.Problem.{Problem}
 use Rattle.qm_model.specs.Plays.{whole_vars}
 use Rattle.qm_model.specs.Sound.{IsSound}
+use Rattle.qm_trees.specs.declared.rule.Rule.{Rule}
 use Rattle.qm_trees.specs.declared.rule.Rule.TheVariants as broken
 use Rattle.qm_trees.specs.Verdicts.{Verdict, Fine, Broken, Left, ◌then◌}
 use Rattle.qm_trees.specs.declared.refutation.Refute.{Refute as Refutation}
@@ -16,15 +17,18 @@ use Rattle.qm_certfile.specs.declared.certificate.Certificate.TheVariants as end
 use Rattle.qm_certfile.specs.Styles.{first_style}
 use Rattle.qm_certfile.specs.CertificateLines.{certificate_text, claimed, version_line}
 use Rattle.qm_certfile.specs.Lines.{Line}
+use Rattle.qm_certread.specs.declared.fault.CertFault.{CertFault}
+use Rattle.qm_certread.specs.declared.fault.CertFault.TheVariants as fault
 use Rattle.qm_certread.specs.Pieces.{lines_of, words_of}
 use Rattle.qm_certread.specs.Spelling.{Said}
 use Rattle.qm_certread.specs.Nodes.{Node, Fixed, Infeasible, Legal, NoPlay, Optimal}
 use Rattle.qm_certread.specs.Dues.{Due, Claimed, Played, Said as DueLine, Policy, Empty, Refute, after, end_line, illegal_line, policy_line, refute_line, refuted}
 use Rattle.qm_certread.specs.Forms.{certificate_form, form_of, rule_of, said_at}
 use Rattle.qm_certread.specs.NodesOf.{empty_nodes, nodes_of, policy_nodes, refute_nodes}
-use Rattle.qm_certread.specs.Reading.{AreSaid, IsInForm, IsOfCertificate}
+use Rattle.qm_certread.specs.Reading.{AreSaid, IsFirstFault, IsInForm, IsOfCertificate, IsReadBack}
 use Rattle.qm_certread.specs.Fits.{AreFit, Fits}
 use Rattle.qm_certread.proofs.BodyRead.{claimed_twice}
+use Rattle.qm_certread.proofs.NodePieces.{one_fits}
 use Rattle.qm_certread.proofs.TextLines.{said_fit, text_same, whole_fits, whole_text}
 use Rattle.qm_certread.proofs.TextSplits.{fit_said}
 use Rattle.qm_certread.proofs.WholeRead.{said_form}
@@ -191,3 +195,21 @@ in_form P text sound (c, fits, is) = said_in_form P text (nodes_of first_style P
 
 pub form_law : (P : Problem) (text : List ℕ) → IsSound P → IsInForm P text ↔ IsOfCertificate P text
 form_law P text sound = (formed P text sound, in_form P text sound)
+
+-- ---- what is read back
+
+no_fault : (v : Verdict) (r : Rule) (m n : ℕ) → v ≡ Fine m → (Fine 1) then v ≡ Broken r n → ⊥
+no_fault v r m n fine broken = let bad : Fine (1 + m) ≡ Broken r n = sym (ap (λ w. (Fine 1) then w) fine) ∙ broken in cc
+
+back_by : (P : Problem) (text : List ℕ) (d : Certificate) (r : Result Certificate CertFault) → IsSound P → Fits P d → certificate_text P d ≡ text → IsInForm P text
+    → IsFirstFault (certificate_form first_style P text) r → IfOk r (λ c. certificate_text P c ≡ text) → IfOk r (λ c. Fits P c) → IsReadBack d r
+back_by P text d (Ok c) sound fits is form first same fit = inl (ap Ok (one_fits P (few_whole P sound) c d fit fits (same ∙ sym is)))
+back_by P text d (Err (fault.Text n)) sound fits is form first same fit = absurd (no_fault (certificate_form first_style P text) broken.Text form.0 n form.1 first)
+back_by P text d (Err (fault.Number n)) sound fits is form first same fit = absurd (no_fault (certificate_form first_style P text) broken.Number form.0 n form.1 first)
+back_by P text d (Err fault.Memory) sound fits is form first same fit = inr refl
+
+pub read_back : (P : Problem) (text : List ℕ) (r : Result Certificate CertFault) → IsSound P → IsFirstFault (certificate_form first_style P text) r
+    → IfOk r (λ c. AreSaid first_style P (Claimed ∷ []) (nodes_of first_style P c) (lines_of text))
+    → (d : Certificate) → Fits P d → certificate_text P d ≡ text → IsReadBack d r
+read_back P text r sound first said d fits is =
+    back_by P text d r sound fits is (in_form P text sound (d, fits, is)) first (read_text P text r sound said) (read_fits P text r sound said)

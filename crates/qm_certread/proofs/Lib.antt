@@ -9,6 +9,7 @@ mod LineForms
 mod LinesFit
 mod Moved
 mod NextLines
+mod NodePieces
 mod PolicyRead
 mod Positions
 mod Quotients

@@ -1,5 +1,5 @@
 -- What is read of a certificate's text.
-use Rattle.std.specs.Prelude.{◌≡◌, ℕ, List, [], ◌∷◌, ◌++◌, Result, Ok, Err}
+use Rattle.std.specs.Prelude.{◌≡◌, ◌⊎◌, ℕ, List, [], ◌∷◌, ◌++◌, Result, Ok, Err}
 use Rattle.qm_model.specs.declared.game.Problem.{Problem}
 use Rattle.qm_trees.specs.declared.rule.Rule.TheVariants as broken
 use Rattle.qm_trees.specs.Verdicts.{Verdict, Fine, Broken, ◌then◌}
@@ -40,3 +40,7 @@ IsInForm P text = (n : ℕ) × (certificate_form first_style P text ≡ Fine n)
 -- the text is that of a certificate that fits the game
 abbrev pub IsOfCertificate : Problem → List ℕ → Type 0
 IsOfCertificate P text = (certificate : Certificate) × Fits P certificate × (certificate_text P certificate ≡ text)
+
+-- what is answered where the text is that of this certificate, and it fits the game: the certificate, if there is memory for it
+abbrev pub IsReadBack : Certificate → Result Certificate CertFault → Type 0
+IsReadBack certificate result = (result ≡ Ok certificate) ⊎ (result ≡ Err fault.Memory)

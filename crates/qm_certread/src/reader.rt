@@ -1,5 +1,6 @@
 ghost use Rattle.std.specs.Prelude.{◌≡◌, ◌≤◌, ◌<◌, ◌^◌, ◌∷◌, [], length, IfOk, IfErr, OnOk};
 ghost use Rattle.qm_model.specs.declared.game.Problem.{Problem};
+ghost use Rattle.qm_certfile.specs.declared.certificate.Certificate.{Certificate};
 ghost use Rattle.qm_certfile.specs.CertificateLines.{certificate_text, version_line};
 ghost use Rattle.qm_certread.specs.Dues.{Played, Policy, Refute, Said, end_line, policy_line, refute_line};
 ghost use Rattle.qm_certread.specs.Nodes.{Fixed, Legal};
@@ -7,7 +8,7 @@ ghost use Rattle.qm_certread.specs.NodesOf.{body_nodes, claim_of, policy_nodes, 
 ghost use Rattle.qm_certfile.specs.Styles.{first_style};
 ghost use Rattle.qm_certread.specs.Forms.{certificate_form};
 ghost use Rattle.qm_certread.specs.Fits.{Fits};
-ghost use Rattle.qm_certread.specs.Reading.{IsFirstFault};
+ghost use Rattle.qm_certread.specs.Reading.{IsFirstFault, IsReadBack};
 ghost use Rattle.qm_certread.specs.ReadSteps.{Fails, IsFault, IsIn, IsLast, Meets, body_dues};
 ghost use Rattle.qm_certread.specs.SaidSteps.{claim_node};
 
@@ -31,6 +32,7 @@ pub fn read(alloc: Global, text: &[u8], game: &Game) -> Result<Certificate, Cert
     ensures form { IsFirstFault (certificate_form first_style game.now text.now) result }
     ensures text { IfOk result (λ certificate. certificate_text game.now certificate ≡ text.now) }
     ensures fits { IfOk result (λ certificate. Fits game.now certificate) }
+    ensures back { (certificate : Certificate) → Fits game.now certificate → certificate_text game.now certificate ≡ text.now → IsReadBack certificate result }
 {
     let problem = game.problem();
     let mut cursor = Cursor { at: 0, line: 1 };

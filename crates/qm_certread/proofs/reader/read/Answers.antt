@@ -1,4 +1,4 @@
-use Rattle.qm_certread.proofs.FineTexts.{read_fits, read_text}
+use Rattle.qm_certread.proofs.FineTexts.{read_back, read_fits, read_text}
 use Rattle.qm_certread.proofs.WholeRead.{body_fails, claim_fails, end_result}
 use Rattle.qm_certread.proofs.reader.read.Goals as goal
 
@@ -26,3 +26,9 @@ returns-clause-fits c =
     read_fits c.args.game.now c.args.text.now c.ended.result (rw c.problem-problem.ensures.value at c.problem-problem.ensures.sound)
     (end_result c.args.game.now c.args.text.now c.in_ok-claim.claim c.in_ok-certificate.certificate c.next_claim.new.cursor c.read_body.new.cursor c.ended.result c.in_ok-claim.ensures.ok
     (rw c.problem-problem.ensures.value at c.in_ok-certificate.ensures.claim) (rw c.problem-problem.ensures.value at c.in_ok-certificate.ensures.ok) c.ended.ensures.ok c.ended.ensures.err).1
+
+pub returns-clause-back : goal.returns-clause-back
+returns-clause-back c =
+    let all = end_result c.args.game.now c.args.text.now c.in_ok-claim.claim c.in_ok-certificate.certificate c.next_claim.new.cursor c.read_body.new.cursor c.ended.result c.in_ok-claim.ensures.ok
+    (rw c.problem-problem.ensures.value at c.in_ok-certificate.ensures.claim) (rw c.problem-problem.ensures.value at c.in_ok-certificate.ensures.ok) c.ended.ensures.ok c.ended.ensures.err in
+    read_back c.args.game.now c.args.text.now c.ended.result (rw c.problem-problem.ensures.value at c.problem-problem.ensures.sound) all.0 all.1
