@@ -1,8 +1,8 @@
 -- A text in form is a certificate's.
 use Rattle.std.proofs.Common.{◌≡◌, ℕ, List, [], ◌∷◌, ◌++◌, append_assoc, ◌+◌, ◌<◌, ◌^◌, length, map, ℤ, Result, Ok, Err, inl, inr, refl, sym, ap, ap₂, ◌∙◌, subst, arith}
-use Rattle.std.specs.Prelude.{IfOk, ◌⊎◌, ◌↔◌}
+use Rattle.std.specs.Prelude.{IfOk, IsErrAnd, ◌⊎◌, ◌↔◌}
 use Rattle.std.proofs.lemmas.List.{length-take}
-use Rattle.std.proofs.lemmas.Result.{IfOk-weaker}
+use Rattle.std.proofs.lemmas.Result.{IfOk-weaker, err_from_is_err_and}
 use Rattle.qm_math.specs.Fraction.{Fraction}
 use Rattle.qm_frac.specs.Lowest.{IsFrac}
 use Rattle.qm_model.specs.declared.game.Problem.{Problem}
@@ -213,3 +213,10 @@ pub read_back : (P : Problem) (text : List ℕ) (r : Result Certificate CertFaul
     → (d : Certificate) → Fits P d → certificate_text P d ≡ text → IsReadBack d r
 read_back P text r sound first said d fits is =
     back_by P text d r sound fits is (in_form P text sound (d, fits, is)) first (read_text P text r sound said) (read_fits P text r sound said)
+
+-- where a line isn't in form
+pub fault_back : (P : Problem) (text : List ℕ) (r : Result Certificate CertFault) (e : CertFault) → IsErrAnd r (λ y. y ≡ e) → IsSound P → IsFirstFault (certificate_form first_style P text) r
+    → (d : Certificate) → Fits P d → certificate_text P d ≡ text → IsReadBack d r
+fault_back P text r e out sound first =
+    let err = err_from_is_err_and r out in
+    read_back P text r sound first (subst (λ (s : Result Certificate CertFault). IfOk s (λ c. AreSaid first_style P (Claimed ∷ []) (nodes_of first_style P c) (lines_of text))) (sym err.1) tt)
