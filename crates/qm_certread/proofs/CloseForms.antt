@@ -1,6 +1,6 @@
 -- A line closes with a combination just where it is the combination's own line.
-use Rattle.std.proofs.Common.{◌≡◌, ◌≢◌, ℕ, zero, suc, ◌+◌, ◌-◌, ◌<◌, ◌≤◌, ◌^◌, Bool, true, false, List, [], ◌∷◌, ◌++◌, length, get_or, map, ℤ, pos, negsuc, ◌*ℤ◌, ◌<ℤ◌, Option, None, Some, Result, Ok, Err, inl, inr, refl, sym, ap, ap₂, ◌∙◌, subst, arith}
-use Rattle.std.specs.Prelude.{All, FitsSigned, ◌⊎◌, ◌||◌, ◌&&◌, ◌==◌, codes, nat_lt, int_lt, if◌then◌else◌}
+use Rattle.std.proofs.Common.{◌≡◌, ◌≢◌, ℕ, zero, suc, ◌+◌, ◌<◌, ◌^◌, Bool, true, false, List, [], ◌∷◌, ◌++◌, length, get_or, map, ℤ, pos, negsuc, ◌*ℤ◌, ◌<ℤ◌, Option, None, Some, Ok, Err, inl, inr, refl, sym, ap, ap₂, ◌∙◌, subst, arith}
+use Rattle.std.specs.Prelude.{All, FitsSigned, ◌||◌, ◌&&◌, ◌==◌, codes, nat_lt, if◌then◌else◌}
 use Rattle.std.specs.Char.{is_ascii_digit}
 use Rattle.std.specs.Fmt.{decimal}
 use Rattle.std.specs.Int.{w64}
@@ -9,7 +9,7 @@ use Rattle.std.proofs.lemmas.Bool.{and_parts}
 use Rattle.std.proofs.lemmas.Bool.Decides.{nat_tests}
 use Rattle.std.proofs.lemmas.Int.{ints}
 use Rattle.std.proofs.lemmas.List.Elements.{All-cons, All-nil}
-use Rattle.qm_math.specs.Fraction.{Fraction, HasPositiveDen, IsBelow, whole}
+use Rattle.qm_math.specs.Fraction.{Fraction, IsBelow, whole}
 use Rattle.qm_frac.specs.Lowest.{IsFrac}
 use Rattle.qm_model.specs.declared.row_id.RowId.{RowId}
 use Rattle.qm_model.specs.declared.row_id.RowId.TheVariants as id
@@ -20,13 +20,12 @@ use Rattle.qm_text.proofs.Slashes.{digits_of_plain}
 use Rattle.qm_text.proofs.Written.{fraction_written, narrow_written}
 use Rattle.qm_trees.specs.declared.combination.Entry.{Entry}
 use Rattle.qm_trees.specs.Entries.{AreEntries, Combination, IsBefore, IsPositive}
-use Rattle.qm_certread.specs.declared.fault.Misread.{Misread}
 use Rattle.qm_certread.specs.declared.fault.Misread.TheVariants as rule
 use Rattle.qm_certfile.specs.Lines.{Word, Line}
 use Rattle.qm_certfile.specs.Numbers.{number_of_row}
 use Rattle.qm_certfile.specs.Styles.{first_style, numbered}
 use Rattle.qm_certfile.specs.TreeLines.{close_line, entry_word, objective_words}
-use Rattle.qm_certread.specs.Spelling.{Said, Written, are_in_order, as_row, combination, combination_said, cut_at, each, entries_said, entry_of, entry_row, entry_said, fraction_word, is_before, kind_of, multiplier_word, of_type, row_id, whole_of, with_both, with_entries, written, written_row}
+use Rattle.qm_certread.specs.Spelling.{Said, Written, are_in_order, as_row, combination, combination_said, cut_at, each, entries_said, entry_of, entry_row, entry_said, is_before, multiplier_word, of_type, row_id, whole_of, with_both, with_entries, written, written_row}
 use Rattle.qm_certread.specs.Forms.{said_as, said_behind}
 use Rattle.qm_certread.specs.Nodes.{Node, Close}
 use Rattle.qm_certread.specs.WordSteps.{is_counting, row_number_said}
@@ -336,8 +335,7 @@ pub plain_line_told : (ws : Line) (node : Node) → said_as Close (said_behind (
 plain_line_told ws node e =
     let inner = as_told Close (said_behind (codes "close" ∷ []) (with_entries false) ws) node e in
     let behind = behind_told (codes "close") (with_entries false) ws inner.0 inner.1 in
-    let told = entries_line_told false behind.rest inner.0 behind.says in
-    (
+    let told = entries_line_told false behind.rest inner.0 behind.says in (
       behind.line ∙ ap₂ (λ (o : Bool) (rest : List Word). codes "close" ∷ objective_words o ++ rest) (sym told.1) told.0 ∙ ap line_of inner.2,
       (inner.0, inner.2, (told.1, told.2)),
     )
@@ -345,8 +343,8 @@ plain_line_told ws node e =
 pub plain_line_said : (combo : Combination) → IsPlain combo → said_as Close (said_behind (codes "close" ∷ []) (with_entries false) (close_line first_style combo)) ≡ Ok (Close combo)
 plain_line_said combo (plain, h) =
     ap (said_as Close) (
-      ap (λ (o : Bool). said_behind (codes "close" ∷ []) (with_entries false) (codes "close" ∷ objective_words o ++ words combo.entries)) plain
-      ∙ behind_said (codes "close") (with_entries false) (words combo.entries)
-      ∙ entries_line_said false combo.entries h.0 h.1
-      ∙ ap (λ (o : Bool). Ok (combination o combo.entries)) (sym plain)
+    ap (λ (o : Bool). said_behind (codes "close" ∷ []) (with_entries false) (codes "close" ∷ objective_words o ++ words combo.entries)) plain
+    ∙ behind_said (codes "close") (with_entries false) (words combo.entries)
+    ∙ entries_line_said false combo.entries h.0 h.1
+    ∙ ap (λ (o : Bool). Ok (combination o combo.entries)) (sym plain)
     )

@@ -1,10 +1,9 @@
 -- A text in form is a certificate's.
-use Rattle.std.proofs.Common.{◌≡◌, ℕ, List, [], ◌∷◌, ◌++◌, append_assoc, ◌+◌, ◌<◌, ◌^◌, length, map, ℤ, Result, Ok, Err, inl, inr, refl, sym, ap, ap₂, ◌∙◌, subst, arith}
-use Rattle.std.specs.Prelude.{IfOk, IsErrAnd, ◌⊎◌, ◌↔◌}
+use Rattle.std.proofs.Common.{◌≡◌, ℕ, List, [], ◌∷◌, ◌++◌, append_assoc, ◌+◌, ◌<◌, ◌^◌, length, ℤ, Result, Ok, Err, inl, inr, refl, sym, ap, ◌∙◌, subst, arith}
+use Rattle.std.specs.Prelude.{IfOk, IsErrAnd, ◌↔◌}
 use Rattle.std.proofs.lemmas.List.{length-take}
 use Rattle.std.proofs.lemmas.Result.{IfOk-weaker, err_from_is_err_and}
 use Rattle.qm_math.specs.Fraction.{Fraction}
-use Rattle.qm_frac.specs.Lowest.{IsFrac}
 use Rattle.qm_model.specs.declared.game.Problem.{Problem}
 use Rattle.qm_model.specs.Plays.{whole_vars}
 use Rattle.qm_model.specs.Sound.{IsSound}
@@ -88,12 +87,14 @@ module _ (P : Problem) where
     where
       played : (rest : List Node) → AreFit P (Played ∷ ds) rest → ns ≡ Fixed (version_line first_style) ∷ rest → (legal : List ℤ) × Behind (Fixed (version_line first_style) ∷ Legal legal ∷ []) ds ns
       played [] fit all = absurd fit
-      played (node ∷ rest) ((legal, is, h), fit) all =
-          (legal, record {
-            rest = rest;
-            all = all ∙ ap (λ n. Fixed (version_line first_style) ∷ n ∷ rest) (sym is);
-            fit = subst (λ n. AreFit P (after first_style Played n ++ ds) rest) (sym is) fit;
-          })
+      played (node ∷ rest) ((legal, is, h), fit) all = (
+        legal,
+        record {
+          rest = rest;
+          all = all ∙ ap (λ n. Fixed (version_line first_style) ∷ n ∷ rest) (sym is);
+          fit = subst (λ n. AreFit P (after first_style Played n ++ ds) rest) (sym is) fit;
+        },
+      )
 
   nothing_more : (rest : List Node) → AreFit P [] rest → rest ≡ []
   nothing_more [] fit = refl
@@ -127,8 +128,7 @@ module _ (P : Problem) where
       let tail = Fixed refute_line ∷ refute_nodes last.0 in
       let all : first.rest ≡ (moves ++ tail) ++ Fixed end_line ∷ [] =
       policy.all ∙ ap (λ ms. moves ++ ms) last.1 ∙ sym (append_assoc moves tail (Fixed end_line ∷ [])) in
-      let body : begin.1.rest ≡ Fixed policy_line ∷ ((moves ++ tail) ++ Fixed end_line ∷ []) = first.all ∙ ap (λ ms. Fixed policy_line ∷ ms) all in
-      (
+      let body : begin.1.rest ≡ Fixed policy_line ∷ ((moves ++ tail) ++ Fixed end_line ∷ []) = first.all ∙ ap (λ ms. Fixed policy_line ∷ ms) all in (
         ending.Optimal (claimed P.sense value) begin.0 policy.tree last.0,
         ap (λ a. Optimal a ∷ Fixed (version_line first_style) ∷ Legal begin.0 ∷ Fixed policy_line ∷ ((moves ++ tail) ++ Fixed end_line ∷ [])) (claimed_twice P.sense value)
             ∙ sym (ap (λ ms. Optimal value ∷ ms) (begin.1.all ∙ ap (λ ms. Fixed (version_line first_style) ∷ Legal begin.0 ∷ ms) body)),
@@ -139,8 +139,7 @@ module _ (P : Problem) where
       let version = fixed_first (version_line first_style) (DueLine illegal_line ∷ Empty 0 ∷ DueLine end_line ∷ []) ns fit in
       let illegal = fixed_first illegal_line (Empty 0 ∷ DueLine end_line ∷ []) version.rest version.fit in
       let tree = empty_from P (length illegal.rest) 0 (DueLine end_line ∷ []) illegal.rest (omega arith) illegal.fit in
-      let last = tree.all ∙ ap (λ ms. empty_nodes tree.tree ++ ms) (end_only tree.rest tree.fit) in
-      (
+      let last = tree.all ∙ ap (λ ms. empty_nodes tree.tree ++ ms) (end_only tree.rest tree.fit) in (
         ending.Empty tree.tree,
         sym (ap (λ ms. NoPlay ∷ ms) (version.all ∙ ap (λ ms. Fixed (version_line first_style) ∷ ms) (illegal.all ∙ ap (λ ms. Fixed illegal_line ∷ ms) last))),
       )

@@ -1,8 +1,7 @@
 -- A line says a node just where it is the node's own line, and the node may stand there.
-use Rattle.std.proofs.Common.{◌≡◌, ℕ, zero, suc, ◌+◌, ◌<◌, ◌≤◌, ◌^◌, Bool, true, false, ◌&&◌, List, [], ◌∷◌, ◌++◌, length, map, ℤ, pos, negsuc, Option, None, Some, Result, Ok, Err, refl, sym, ap, ap₂, ◌∙◌, subst, arith}
-use Rattle.std.specs.Prelude.{All, codes, drop, nat_le, slice_get, ◌==◌, if◌then◌else◌}
-use Rattle.std.specs.Fmt.{decimal, signed_decimal}
-use Rattle.std.specs.Option.{option_map}
+use Rattle.std.proofs.Common.{◌≡◌, ℕ, Bool, true, false, ◌&&◌, List, [], ◌∷◌, length, map, ℤ, Option, None, Some, Ok, Err, refl, sym, ap, ap₂, ◌∙◌, arith}
+use Rattle.std.specs.Prelude.{All, ◌==◌, if◌then◌else◌}
+use Rattle.std.specs.Fmt.{signed_decimal}
 use Rattle.std.specs.Str.{bytes_eq}
 use Rattle.std.proofs.lemmas.Bool.{and_parts}
 use Rattle.std.proofs.lemmas.Bool.Decides.{nat_tests}
@@ -11,23 +10,14 @@ use Rattle.std.proofs.lemmas.List.{length-map}
 use Rattle.qm_math.specs.Fraction.{Fraction}
 use Rattle.qm_frac.specs.Lowest.{IsFrac}
 use Rattle.qm_text.specs.Numbers.{number_word}
-use Rattle.qm_model.specs.declared.range.Range.{Range}
-use Rattle.qm_model.specs.declared.variable.Player.{Player}
-use Rattle.qm_model.specs.declared.variable.Player.TheVariants.{Exists, All as Universal}
-use Rattle.qm_model.specs.declared.variable.Var.{Var}
-use Rattle.qm_model.specs.declared.game.Problem.{Problem}
-use Rattle.qm_model.specs.Plays.{is_universal, whole_vars}
-use Rattle.qm_model.specs.Points.{continuous_vars}
-use Rattle.qm_certread.specs.declared.fault.Misread.{Misread}
 use Rattle.qm_certread.specs.declared.fault.Misread.TheVariants as rule
 use Rattle.qm_certfile.specs.Lines.{Word, Line}
 use Rattle.qm_certfile.specs.WellFormed.{IsWhole}
-use Rattle.qm_certread.specs.Spelling.{Said, count_word, each, each_of, fraction_word, one, value_word, with_both}
-use Rattle.qm_certread.specs.Nodes.{Node, Fixed, Infeasible, NoPlay, Optimal, Legal, Choose, Answer, Leaf, Split, Over, Pick, Close, Part}
-use Rattle.qm_certread.specs.Dues.{empty_line, infeasible_line}
-use Rattle.qm_certread.specs.Forms.{behind, claim_said, is_line, range_of, range_said, said_as, said_behind}
+use Rattle.qm_certread.specs.Spelling.{Said, each, each_of, fraction_word, one, value_word}
+use Rattle.qm_certread.specs.Nodes.{Node}
+use Rattle.qm_certread.specs.Forms.{is_line, said_as, said_behind}
 use Rattle.qm_certread.specs.Fits.{AreValues, IsOne, line_of}
-use Rattle.qm_certread.proofs.WordForms.{both_ok, count_said, count_told, each_said, each_told, fraction_said, fraction_told_so, value_said, value_told}
+use Rattle.qm_certread.proofs.WordForms.{each_said, each_told, fraction_said, fraction_told_so, value_said, value_told}
 
 -- ---- words of a line
 

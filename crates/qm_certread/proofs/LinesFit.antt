@@ -1,15 +1,14 @@
 -- Where something is due, a line says a node just where it is the node's own line and the node may stand there.
-use Rattle.std.proofs.Common.{◌≡◌, ℕ, zero, suc, ◌+◌, ◌<◌, ◌≤◌, ◌^◌, Bool, true, false, ◌&&◌, List, [], ◌∷◌, ◌++◌, length, map, ℤ, pos, negsuc, Option, None, Some, Result, Ok, Err, inl, inr, refl, sym, ap, ap₂, ◌∙◌, subst, arith}
-use Rattle.std.specs.Prelude.{FitsSigned, ◌⊎◌, codes, drop, nat_le, slice_get, if◌then◌else◌}
+use Rattle.std.proofs.Common.{◌≡◌, ℕ, zero, suc, ◌+◌, ◌<◌, ◌^◌, Bool, true, false, ◌&&◌, List, [], ◌∷◌, length, map, ℤ, pos, negsuc, Option, None, Some, Ok, Err, inl, inr, refl, sym, ap, ap₂, ◌∙◌, subst, arith}
+use Rattle.std.specs.Prelude.{FitsSigned, codes, drop, nat_le, slice_get, if◌then◌else◌}
 use Rattle.std.specs.Fmt.{decimal, signed_decimal}
 use Rattle.std.specs.Int.{w64}
 use Rattle.std.specs.Option.{option_map}
 use Rattle.std.proofs.lemmas.Bool.{and_parts}
 use Rattle.std.proofs.lemmas.Bool.Decides.{nat_tests}
 use Rattle.std.proofs.lemmas.Option.{slice_get_cases, slice_get_within}
-use Rattle.qm_math.specs.Fraction.{Fraction}
 use Rattle.qm_frac.specs.Lowest.{IsFrac}
-use Rattle.qm_text.specs.Numbers.{SpellsNatural, number_word}
+use Rattle.qm_text.specs.Numbers.{number_word}
 use Rattle.qm_text.proofs.Written.{narrow_written}
 use Rattle.qm_model.specs.declared.range.Range.{Range}
 use Rattle.qm_model.specs.declared.variable.Player.{Player}
@@ -19,19 +18,16 @@ use Rattle.qm_model.specs.declared.game.Problem.{Problem}
 use Rattle.qm_model.specs.Plays.{is_universal, whole_vars}
 use Rattle.qm_model.specs.Points.{continuous_vars}
 use Rattle.qm_trees.specs.Picks.{universal_count}
-use Rattle.qm_trees.specs.Entries.{Combination}
-use Rattle.qm_certread.specs.declared.fault.Misread.{Misread}
 use Rattle.qm_certread.specs.declared.fault.Misread.TheVariants as rule
 use Rattle.qm_certfile.specs.Lines.{Word, Line}
 use Rattle.qm_certfile.specs.Styles.{first_style}
-use Rattle.qm_certfile.specs.TreeLines.{close_line}
 use Rattle.qm_certfile.specs.WellFormed.{IsWhole}
 use Rattle.qm_certread.specs.Spelling.{Said, combination_said, count_word, each_of, fraction_word, one, value_word, whole_of, with_both, with_entries}
 use Rattle.qm_certread.specs.Nodes.{Node, Fixed, Infeasible, NoPlay, Optimal, Legal, Choose, Answer, Leaf, Split, Over, Pick, Close, Part}
 use Rattle.qm_certread.specs.Dues.{Due, Claimed, Played, Policy, Below, Empty, Refute, Ranges, empty_line, illegal_line, infeasible_line}
 use Rattle.qm_certread.specs.Dues as due
 use Rattle.qm_certread.specs.Forms.{is_kind, is_line, move_said, pick_said, player_at, policy_said, position_at, position_said, range_of, range_said, refute_said, said_as, said_at, said_behind, split_said}
-use Rattle.qm_certread.specs.Fits.{AreValues, FitsAt, FitsMove, IsCombination, IsCount, IsOne, IsPlain, IsPoint, IsSplit, line_of}
+use Rattle.qm_certread.specs.Fits.{AreValues, FitsAt, FitsMove, IsCount, IsOne, IsPoint, IsSplit, line_of}
 use Rattle.qm_certread.proofs.Decoded.{whole_is, whole_some}
 use Rattle.qm_certread.proofs.WordForms.{both_ok, count_said, count_told, fraction_said, fraction_told_so, value_said, value_told}
 use Rattle.qm_certread.proofs.LineForms.{as_told, behind_said, behind_told, line_same, line_told, one_line_said, one_line_told, point_said, point_told, values_said, values_told}

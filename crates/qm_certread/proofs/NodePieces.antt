@@ -1,6 +1,6 @@
 -- A certificate that fits is well formed.
-use Rattle.std.proofs.Common.{◌≡◌, ℕ, zero, suc, ◌+◌, ◌<◌, ◌≤◌, ◌^◌, Bool, true, false, List, [], ◌∷◌, ◌++◌, append_assoc, length, map, ℤ, pos, negsuc, Option, None, Some, inl, inr, refl, sym, ap, ap₂, ◌∙◌, subst, arith}
-use Rattle.std.specs.Prelude.{All, ◌⊎◌}
+use Rattle.std.proofs.Common.{◌≡◌, ℕ, ◌<◌, ◌^◌, List, [], ◌∷◌, ◌++◌, append_assoc, length, map, Option, None, Some, inl, inr, refl, sym, ap, ap₂, ◌∙◌, subst, arith}
+use Rattle.std.specs.Prelude.{All}
 use Rattle.std.proofs.lemmas.List.{length-map}
 use Rattle.std.proofs.lemmas.Option.{slice_get_within}
 use Rattle.qm_math.specs.Fraction.{Fraction}
@@ -17,7 +17,6 @@ use Rattle.qm_model.specs.declared.variable.Player.TheVariants.{Exists, All as U
 use Rattle.qm_model.specs.declared.game.Problem.{Problem}
 use Rattle.qm_model.specs.Plays.{whole_vars}
 use Rattle.qm_trees.specs.declared.combination.Entry.{Entry}
-use Rattle.qm_trees.specs.Entries.{Combination}
 use Rattle.qm_trees.specs.declared.empty.Empty.{Empty as EmptyTree}
 use Rattle.qm_trees.specs.declared.empty.EmptyPart.{EmptyPart}
 use Rattle.qm_trees.specs.declared.empty.Empty.TheOpen as none

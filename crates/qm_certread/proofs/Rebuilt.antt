@@ -1,6 +1,5 @@
 -- Nodes that may stand where they are due are those of a tree, and behind it what is due next.
-use Rattle.std.proofs.Common.{◌≡◌, ℕ, zero, suc, ◌+◌, ◌≤◌, List, [], ◌∷◌, ◌++◌, append_assoc, length, length-append, map, ℤ, Option, None, Some, inl, inr, refl, sym, ap, ap₂, ◌∙◌, subst, arith}
-use Rattle.std.specs.Prelude.{◌⊎◌}
+use Rattle.std.proofs.Common.{◌≡◌, ℕ, zero, suc, ◌+◌, ◌≤◌, List, [], ◌∷◌, ◌++◌, append_assoc, length, length-append, map, Option, None, Some, inl, inr, refl, sym, ap, ◌∙◌, subst, arith}
 use Rattle.qm_math.specs.Fraction.{Fraction}
 use Rattle.qm_model.specs.declared.range.Range.{Range}
 use Rattle.qm_model.specs.declared.variable.Player.{Player}
@@ -33,7 +32,7 @@ use Rattle.qm_certread.specs.Dues.{Due, Policy, Below, Empty, Refute, Ranges, af
 use Rattle.qm_certread.specs.NodesOf.{in_turn, below_nodes, below_step, empty_nodes, empty_part_nodes, policy_nodes, policy_part_nodes, policy_part_step, policy_step, refute_nodes, refute_part_nodes}
 use Rattle.qm_certread.specs.NodesOf as nodes
 use Rattle.qm_certread.specs.Forms.{player_at}
-use Rattle.qm_certread.specs.Fits.{AreFit, FitsAt, FitsMove}
+use Rattle.qm_certread.specs.Fits.{AreFit, FitsMove}
 use Rattle.qm_certread.proofs.EmptyRead.{split_nodes}
 use Rattle.qm_certread.proofs.PolicyRead.{answer_nodes, choose_nodes, on_nodes}
 use Rattle.qm_certread.proofs.RefuteRead.{over_nodes, pick_nodes}

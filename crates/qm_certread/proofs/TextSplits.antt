@@ -1,6 +1,6 @@
 -- The text of a certificate that fits is in form.
-use Rattle.std.proofs.Common.{◌≡◌, ◌≢◌, ℕ, zero, suc, ◌+◌, ◌<◌, ◌≤◌, ◌^◌, Bool, true, false, List, [], ◌∷◌, ◌++◌, append_assoc, length, map, ℤ, pos, negsuc, unsigned_abs, Option, None, Some, Ok, inl, inr, refl, sym, ap, ap₂, ◌∙◌, subst, arith}
-use Rattle.std.specs.Prelude.{All, ◌⊎◌, codes}
+use Rattle.std.proofs.Common.{◌≡◌, ◌≢◌, ℕ, zero, suc, ◌+◌, ◌<◌, ◌≤◌, ◌^◌, Bool, true, false, List, [], ◌∷◌, ◌++◌, append_assoc, length, map, ℤ, pos, negsuc, Option, None, Some, Ok, inl, inr, refl, sym, ap, ◌∙◌, subst, arith}
+use Rattle.std.specs.Prelude.{All, codes}
 use Rattle.std.specs.Fmt.{decimal, signed_decimal}
 use Rattle.std.specs.List.{slice_split, onto_first}
 use Rattle.std.proofs.lemmas.Bool.Decides.{nat_tests}
@@ -19,14 +19,14 @@ use Rattle.qm_model.specs.Plays.{whole_vars}
 use Rattle.qm_trees.specs.declared.combination.Entry.{Entry}
 use Rattle.qm_trees.specs.Entries.{Combination}
 use Rattle.qm_certfile.specs.Lines.{Word, Line, line_text, text_of}
-use Rattle.qm_certfile.specs.Numbers.{greatest_of_fraction, number_of_row}
+use Rattle.qm_certfile.specs.Numbers.{number_of_row}
 use Rattle.qm_certfile.specs.Styles.{first_style, numbered}
 use Rattle.qm_certfile.specs.TreeLines.{close_line, entry_word, objective_words}
 use Rattle.qm_certfile.specs.WellFormed.{IsWhole}
 use Rattle.qm_certfile.proofs.NumberWords.{AreVisible, Lacks, visible_append, visible_decimal, visible_number, visible_signed, visible_word}
 use Rattle.qm_certfile.proofs.LineSplits.{AreWords, words_append}
 use Rattle.qm_certread.specs.Pieces.{lines_of, words_of}
-use Rattle.qm_certread.specs.Nodes.{Node, Fixed, Infeasible, NoPlay, Optimal, Legal, Choose, Answer, Leaf, Split, Over, Pick, Close, Part}
+use Rattle.qm_certread.specs.Nodes.{Node}
 use Rattle.qm_certread.specs.Dues.{Due, Claimed, Played, Said as DueLine, Policy, Below, Empty, Refute, Ranges, after, ranges}
 use Rattle.qm_certread.specs.Forms.{player_at, said_at}
 use Rattle.qm_certread.specs.Reading.{AreSaid}
@@ -167,7 +167,6 @@ end_shown : IsShown (codes "end" ∷ [])
 end_shown = shown_alone (codes "end") (visible_word (codes "end") tt)
 
 module _ (P : Problem) (few : length (whole_vars P) < 2 ^ 32) where
-
   move_clean : (found : Option Player) (depth : ℕ) (node : Node) → FitsMove P found node → AreClean (after first_style (Policy depth) node) × AreClean (after first_style (Below depth) node)
   move_clean None depth node (point, is, h) = subst (λ n. AreClean (after first_style (Policy depth) n) × AreClean (after first_style (Below depth) n)) is (tt, tt)
   move_clean (Some Exists) depth node (value, is, h) = subst (λ n. AreClean (after first_style (Policy depth) n) × AreClean (after first_style (Below depth) n)) is ((tt, tt), (tt, tt))

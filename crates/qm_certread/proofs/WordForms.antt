@@ -1,5 +1,5 @@
 -- A word says a number just where it is the number's own word.
-use Rattle.std.proofs.Common.{◌≡◌, ◌≢◌, ℕ, zero, suc, ◌+◌, ◌<◌, ◌≤◌, ◌^◌, Bool, true, false, List, [], ◌∷◌, ◌++◌, length, map, ℤ, pos, negsuc, Option, None, Some, Result, Ok, Err, refl, sym, ap, ap₂, ◌∙◌, subst, arith}
+use Rattle.std.proofs.Common.{◌≡◌, ℕ, suc, ◌<◌, ◌^◌, Bool, true, false, List, [], ◌∷◌, map, ℤ, pos, negsuc, None, Some, Ok, Err, refl, ap, ap₂, ◌∙◌, subst, arith}
 use Rattle.std.specs.Prelude.{All, FitsSigned, nat_lt, if◌then◌else◌}
 use Rattle.std.specs.Fmt.{decimal, signed_decimal}
 use Rattle.std.specs.Int.{w64}
@@ -7,13 +7,11 @@ use Rattle.std.proofs.lemmas.Bool.Decides.{nat_tests}
 use Rattle.std.proofs.lemmas.List.Elements.{All-cons, All-nil}
 use Rattle.qm_math.specs.Fraction.{Fraction}
 use Rattle.qm_frac.specs.Lowest.{IsFrac}
-use Rattle.qm_text.specs.Numbers.{SpellsFraction, SpellsWhole, number_word}
+use Rattle.qm_text.specs.Numbers.{SpellsWhole, number_word}
 use Rattle.qm_text.proofs.Written.{fraction_written, narrow_written}
-use Rattle.qm_certread.specs.declared.fault.Misread.{Misread}
-use Rattle.qm_certread.specs.declared.fault.Misread.TheVariants as rule
 use Rattle.qm_certfile.specs.Lines.{Word}
 use Rattle.qm_certfile.specs.WellFormed.{IsWhole}
-use Rattle.qm_certread.specs.Spelling.{Said, as_count, as_fraction, as_value, count_word, each, fraction_of, fraction_word, of_type, value_word, whole_of, with_both}
+use Rattle.qm_certread.specs.Spelling.{Said, as_count, as_fraction, as_value, count_word, each, fraction_word, of_type, value_word, whole_of, with_both}
 use Rattle.qm_certread.specs.Fits.{IsCount}
 use Rattle.qm_certread.proofs.Decoded.{as_value_is, typed_some, whole_is, whole_some}
 use Rattle.qm_certread.proofs.EntryForms.{frac_told, fraction_told, typed_by}
