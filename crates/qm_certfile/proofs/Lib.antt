@@ -1,15 +1,15 @@
 pub mod ToldEndings
-mod Bounds
+pub mod Bounds
 mod CertificateTexts
-mod DifferentTexts
+pub mod DifferentTexts
 mod EmptyTold
-mod LineSplits
+pub mod LineSplits
 pub mod LineTexts
 mod LowestValues
 mod NearRanges
-mod NumberWords
+pub mod NumberWords
 pub mod PassingForms
-mod Pieces
+pub mod Pieces
 mod PolicyTold
 mod RefuteTold
 mod RightPieces

@@ -44,7 +44,7 @@ answer_nodes parts count is =
 
 -- ---- what a line of a policy says, by who sets the next variable
 
-abbrev by_player : Problem → ℕ → Line → Option Player → Said Node
+abbrev pub by_player : Problem → ℕ → Line → Option Player → Said Node
 by_player P depth words None = said_as Leaf (said_behind (codes "leaf" ∷ []) (each_of fraction_word (length (continuous_vars P))) words)
 by_player P depth words (Some Exists) = said_as Choose (said_behind (codes "choose" ∷ []) (one value_word) words)
 by_player P depth words (Some Universal) = said_as Answer (said_behind (codes "answer" ∷ []) (one count_word) words)

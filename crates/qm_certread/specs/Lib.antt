@@ -8,3 +8,4 @@ pub mod ReadSteps
 pub mod Reading
 pub mod WordSteps
 pub mod SaidSteps
+pub mod Fits

@@ -1,14 +1,16 @@
 //! Certificates that are read: the form of their text, and the first line that isn't in form.
 //!
-//! `read` takes a text and a game and gives the certificate whose text it is, or the fault of the first line that isn't
-//! in form: `Text` or `Number` with its number, from 1. What is in form is a definition (`Forms`): what is due where
-//! (`Dues`), what the words of a line say there (`Spelling`), and which rule they break. The nodes that the lines say
-//! (`Nodes`) are those of the certificate (`NodesOf`).
+//! `read` takes a text and a game and gives the certificate whose text it is, which fits the game (`Fits`); or the fault of
+//! the first line that isn't in form: `Text` or `Number` with its number, from 1. What `write` made of a certificate that
+//! fits is read back to it. What is in form is a definition (`Forms`): what is due where (`Dues`), what the words of a line
+//! say there (`Spelling`), and which rule they break. No rule of a tree is judged.
+//! `texts_in_form_are_those_of_certificates_that_fit` says that nothing else is in form.
 #![tactic(auto)]
 
 mod cursor;
 mod empty_reader;
 mod fault;
+mod laws;
 mod lists;
 mod next;
 mod order;
@@ -21,4 +23,5 @@ mod spelling;
 mod words;
 
 pub use fault::CertFault;
+pub use laws::texts_in_form_are_those_of_certificates_that_fit;
 pub use reader::read;

@@ -1,13 +1,14 @@
 ghost use Rattle.std.specs.Prelude.{◌≡◌, ◌≤◌, ◌<◌, ◌^◌, ◌∷◌, [], length, IfOk, IfErr, OnOk};
 ghost use Rattle.qm_model.specs.declared.game.Problem.{Problem};
-ghost use Rattle.qm_certfile.specs.CertificateLines.{version_line};
-ghost use Rattle.qm_certread.specs.Dues.{Claimed, Played, Policy, Refute, Said, end_line, policy_line, refute_line};
+ghost use Rattle.qm_certfile.specs.declared.certificate.Certificate.{Certificate};
+ghost use Rattle.qm_certfile.specs.CertificateLines.{certificate_text, version_line};
+ghost use Rattle.qm_certread.specs.Dues.{Played, Policy, Refute, Said, end_line, policy_line, refute_line};
 ghost use Rattle.qm_certread.specs.Nodes.{Fixed, Legal};
-ghost use Rattle.qm_certread.specs.NodesOf.{body_nodes, claim_of, nodes_of, policy_nodes, refute_nodes};
+ghost use Rattle.qm_certread.specs.NodesOf.{body_nodes, claim_of, policy_nodes, refute_nodes};
 ghost use Rattle.qm_certfile.specs.Styles.{first_style};
-ghost use Rattle.qm_certread.specs.Pieces.{lines_of};
 ghost use Rattle.qm_certread.specs.Forms.{certificate_form};
-ghost use Rattle.qm_certread.specs.Reading.{AreSaid, IsFirstFault};
+ghost use Rattle.qm_certread.specs.Fits.{Fits};
+ghost use Rattle.qm_certread.specs.Reading.{IsFirstFault, IsReadBack};
 ghost use Rattle.qm_certread.specs.ReadSteps.{Fails, IsFault, IsIn, IsLast, Meets, body_dues};
 ghost use Rattle.qm_certread.specs.SaidSteps.{claim_node};
 
@@ -29,7 +30,9 @@ use std::alloc::Global;
 pub fn read(alloc: Global, text: &[u8], game: &Game) -> Result<Certificate, CertFault>
     requires { length text.now < 2 ^ 31 }
     ensures form { IsFirstFault (certificate_form first_style game.now text.now) result }
-    ensures said { IfOk result (λ certificate. AreSaid first_style game.now (Claimed ∷ []) (nodes_of first_style game.now certificate) (lines_of text.now)) }
+    ensures text { IfOk result (λ certificate. certificate_text game.now certificate ≡ text.now) }
+    ensures fits { IfOk result (λ certificate. Fits game.now certificate) }
+    ensures back { (certificate : Certificate) → Fits game.now certificate → certificate_text game.now certificate ≡ text.now → IsReadBack certificate result }
 {
     let problem = game.problem();
     let mut cursor = Cursor { at: 0, line: 1 };
