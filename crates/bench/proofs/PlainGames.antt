@@ -90,7 +90,7 @@ pub record IsPlainGame (universals : ℕ) (P : Problem) : Type 0 where
   pub plain_vars : All IsPlain P.vars
   pub universal_vars : AreUniversal universals P.vars
   pub wholes : P.wholes ≡ 1000
-  pub few_rows : length P.rows ≤ 2000
+  pub many_rows : length P.rows ≡ 2000
   pub plain_rows : All IsPlainRow P.rows
   pub few_urows : length P.urows ≤ 1000
   pub plain_urows : All (IsPlainUncertainty universals) P.urows
@@ -104,7 +104,7 @@ none_left universals P is = drop_all P.wholes P.vars (omega (arith, is.many_vars
 pub plain-sound : (universals : ℕ) (P : Problem) → IsPlainGame universals P → IsSound P
 plain-sound universals P is =
     let many = is.many_vars in
-    let rows = is.few_rows in
+    let rows = is.many_rows in
     let few = is.few_urows in
     record {
       few_vars = omega (arith, many);

@@ -89,13 +89,13 @@ fn row(alloc: Global, seed: u64) -> Result<Row, Memory>
     })
 }
 
-fn rows(alloc: Global, count: u32) -> Result<List<Row>, Memory>
-    ensures many { IfOk result (λ rows. length rows ≡ count) }
+fn rows(alloc: Global) -> Result<List<Row>, Memory>
+    ensures many { IfOk result (λ rows. length rows ≡ 2000) }
     ensures plain { IfOk result (All IsPlainRow) }
 {
     let mut rows = List::new(alloc);
     let mut seed: u64 = 1;
-    for _ in 0..count {
+    for _ in 0..2000u32 {
         seed = seed
             .wrapping_mul(6364136223846793005)
             .wrapping_add(1442695040888963407);
@@ -104,10 +104,9 @@ fn rows(alloc: Global, count: u32) -> Result<List<Row>, Memory>
     Ok(rows)
 }
 
-/// A game of 1,000 whole variables and so many rows, where the universal player sets the first so many variables and is to
-/// meet the rows that are given.
-pub fn game(alloc: Global, count: u32, universals: u32, urows: List<Row>) -> Result<Game, Memory>
-    requires count { count ≤ 2000 }
+/// A game of 1,000 whole variables and 2,000 rows, where the universal player sets the first so many variables and is to
+/// meet these rows.
+pub fn game(alloc: Global, universals: u32, urows: List<Row>) -> Result<Game, Memory>
     requires universals { universals ≤ 1000 }
     requires few { length urows ≤ 1000 }
     requires urows { All (IsPlainUncertainty universals) urows }
@@ -116,7 +115,7 @@ pub fn game(alloc: Global, count: u32, universals: u32, urows: List<Row>) -> Res
         sense: Sense::Max,
         vars: variables(alloc, universals)?,
         wholes: 1000,
-        rows: rows(alloc, count)?,
+        rows: rows(alloc)?,
         urows,
         terms: Terms::none(alloc),
         constant: 0,
@@ -134,7 +133,7 @@ fn count(end: &Propagated) -> usize {
 /// How many reasons propagation gives on a game of 1,000 variables and 2,000 rows, which is propagated so many times;
 /// 0 where it is not propagated.
 pub fn reasons_in(alloc: Global, times: u32) -> Result<usize, Memory> {
-    let game = game(alloc, 2000, 0, List::new(alloc))?;
+    let game = game(alloc, 0, List::new(alloc))?;
     let mut reasons = 0;
     for _ in 0..times {
         let bx: Bx = whole_box(alloc, &game)?;

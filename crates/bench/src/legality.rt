@@ -1,14 +1,12 @@
-ghost use Rattle.std.specs.Prelude.{[], ◌≡◌, ◌≢◌, ◌+◌, ◌≤◌, All, IfOk, OnOk, length, pos, unsigned_abs};
-ghost use Rattle.qm_legal.specs.Queries.{IsQueryOf};
+ghost use Rattle.std.specs.Prelude.{◌≡◌, ◌≢◌, ◌+◌, ◌≤◌, All, IfOk, OnOk, length, pos, unsigned_abs};
 ghost use Rattle.bench.specs.Games.{IsPlainUncertainty};
 
 use crate::games::game;
-use qm_game::{Bx, Game, Row, Term, Terms, whole_box};
+use qm_game::{Bx, Row, Term, Terms, whole_box};
 use qm_io::{List, Memory};
-use qm_journal::Journal;
-use qm_legal::{LegalFault, Legality, NamedPrefix, complete, legal};
+use qm_legal::{Legality, complete};
 use smallvec::SmallVec;
-use std::alloc::{AllocError, Global};
+use std::alloc::Global;
 
 // The sum of so many variables from `first` on, each times the coefficient, is to be at most `right`.
 fn budget(alloc: Global, first: u32, count: u32, coef: i128, right: i128) -> Result<Row, Memory>
@@ -68,7 +66,7 @@ fn budgets(alloc: Global) -> Result<List<Row>, Memory>
 /// How many values complete an empty prefix of a game of 1,000 variables and 2,000 rows, 400 of them universal under
 /// budgets, which is asked so many times; 0 where it isn't asked.
 pub fn completed_in(alloc: Global, times: u32) -> Result<usize, Memory> {
-    let game = game(alloc, 2000, 400, budgets(alloc)?)?;
+    let game = game(alloc, 400, budgets(alloc)?)?;
     let bx: Bx = whole_box(alloc, &game)?;
     let mut count = 0;
     for _ in 0..times {
@@ -78,58 +76,4 @@ pub fn completed_in(alloc: Global, times: u32) -> Result<usize, Memory> {
         };
     }
     Ok(count)
-}
-
-// How many values complete the empty prefix, and how many entries the question took.
-#[derive(Clone, Copy)]
-struct Asked {
-    values: usize,
-    entries: usize,
-}
-
-// The same question with a journal, which is asked so many times.
-fn asked_in(alloc: Global, times: u32) -> Result<Asked, LegalFault> {
-    let game = game(alloc, 2000, 400, budgets(alloc)?)?;
-    let bx: Bx = whole_box(alloc, &game)?;
-    let mut last = Asked {
-        values: 0,
-        entries: 0,
-    };
-    for _ in 0..times {
-        last = ask(alloc, &game, &bx)?;
-    }
-    Ok(last)
-}
-
-fn ask(alloc: Global, game: &Game, bx: &Bx) -> Result<Asked, LegalFault>
-    requires { IsQueryOf game.now [] bx.now }
-{
-    let named = NamedPrefix {
-        parent: 0,
-        value: None,
-    };
-    let mut journal = Journal::new(alloc, 1000);
-    let answer = legal(alloc, game, bx, named, &mut journal);
-    let entries = journal.entries().len();
-    match answer {
-        Ok(Legality::Completion(values)) => Ok(Asked {
-            values: values.len(),
-            entries,
-        }),
-        Ok(Legality::Illegal(_)) => Ok(Asked { values: 0, entries }),
-        Err(fault) => Err(fault),
-    }
-}
-
-/// How many values complete it, and how many entries are in the journal of the last question.
-pub fn legal_line(alloc: Global, times: u32) -> Result<String, AllocError> {
-    match asked_in(alloc, times) {
-        Ok(asked) => {
-            let values = asked.values;
-            let entries = asked.entries;
-            format!(in alloc; "{values} {entries}")
-        }
-        Err(LegalFault::Spent) => String::from_str(alloc, "spent"),
-        Err(LegalFault::Memory) => String::from_str(alloc, "out of memory"),
-    }
 }

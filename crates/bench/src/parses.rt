@@ -62,14 +62,14 @@ fn push_names(text: &mut Vec<u8>, behind: &[u8]) -> Result<(), AllocError> {
     Ok(())
 }
 
-// A blank, and the name of the variable of this number.
-fn push_name(text: &mut Vec<u8>, variable: u32) -> Result<(), AllocError> {
+/// A blank, and the name of the variable of this number.
+pub fn push_name(text: &mut Vec<u8>, variable: u32) -> Result<(), AllocError> {
     text.extend_from_slice(b" x")?;
     push_digits(text, variable)
 }
 
-// The last four digits of a number.
-fn push_digits(text: &mut Vec<u8>, n: u32) -> Result<(), AllocError> {
+/// The last four digits of a number.
+pub fn push_digits(text: &mut Vec<u8>, n: u32) -> Result<(), AllocError> {
     for digits in [n / 1000, n / 100, n / 10, n] {
         text.push(b'0' + (digits % 10) as u8)?;
     }

@@ -2,26 +2,24 @@ ghost use Rattle.std.specs.Prelude.{List};
 ghost use Rattle.qm_model.specs.declared.variable.Var.{Var};
 ghost use Rattle.qm_model.specs.Boxes.{IsBox};
 
-use crate::answer::{memory, unasked};
-use crate::made::Made;
+use crate::drawn::{Density, text_of};
 use crate::runs::game_of;
-use crate::shapes::continuous_text_of;
 use qm_frac::Frac;
 use qm_game::{Bx, Game, Goal, Range, has_empty, try_narrow, whole_box};
 use qm_io::{List, Memory};
 use qm_relax::{Relaxed, relax};
 use qm_simplex::{LpEnd, LpFault, solve_lp};
 use qm_tableau::first;
-use std::alloc::{AllocError, Global};
+use std::alloc::Global;
 
-// What is done with each box of a play.
-#[derive(Clone, Copy)]
+/// What is done with each box of a play.
+#[derive(Clone, Copy, PartialEq, Eq)]
 enum Part {
-    // Its first tableau is made.
+    /// Its first tableau is made.
     First,
-    // Its relaxation is solved.
+    /// Its relaxation is solved.
     Solve,
-    // It is relaxed.
+    /// It is relaxed.
     Relax,
 }
 
@@ -36,42 +34,46 @@ impl Part {
     }
 }
 
-// The boxes of a random play of a made problem, of which the first so many variables are whole, with values that its number
-// decides. Either all of them, or those whose run makes no pivot.
+/// The boxes of a random play of a made problem: of so many variables, the first so many of which are whole, and with
+/// values that the seed decides. Either all of them, or those whose run makes no pivot.
 #[derive(Clone, Copy)]
-struct Play {
+pub struct Play {
     part: Part,
     still: bool,
-    made: Made,
+    size: u32,
     wholes: u32,
+    seed: u32,
     times: u32,
 }
 
-// How many boxes there were, and how many pivots their runs make.
+/// How many boxes there were, and how many pivots their runs make.
 #[derive(Clone, Copy)]
-struct Walked {
-    boxes: u64,
-    pivots: u64,
+pub struct Walked {
+    pub boxes: u64,
+    pub pivots: u64,
 }
 
 impl Play {
-    fn read(words: &[String]) -> Option<Play> {
+    pub fn read(words: &[String]) -> Option<Play> {
         match words {
-            [part, boxes, size, wholes, number, times] => Some(Play {
+            [part, boxes, size, wholes, seed, times] => Some(Play {
                 part: Part::read(part.as_str())?,
                 still: boxes.as_str() == "still",
-                made: Made::read(size.as_str(), number.as_str())?,
+                size: size.as_str().parse::<u32>().ok()?,
                 wholes: wholes.as_str().parse::<u32>().ok()?,
+                seed: seed.as_str().parse::<u32>().ok()?,
                 times: times.as_str().parse::<u32>().ok()?,
             }),
             _ => None,
         }
     }
 
-    // Walks along the play so many times; what there was to walk along, nothing where there is no such problem.
-    fn walked(self, alloc: Global) -> Result<Walked, Memory> {
-        let text = continuous_text_of(alloc, self.made, self.wholes)?;
-        match game_of(alloc, text.as_bytes()) {
+    /// Walks along the play so many times; what there was to walk along, nothing where there is no such problem.
+    pub fn walked(self, alloc: Global) -> Result<Walked, Memory> {
+        let text = text_of(alloc, Density::Dense, self.size, self.wholes, self.seed).map_err(
+            |_| Memory,
+        )?;
+        match game_of(alloc, &text) {
             Some(game) => self.walked_on(alloc, &game),
             None => Ok(Walked {
                 boxes: 0,
@@ -81,7 +83,7 @@ impl Play {
     }
 
     fn walked_on(self, alloc: Global, game: &Game) -> Result<Walked, Memory> {
-        let chosen = pivots_along(alloc, game, self.made.number())?;
+        let chosen = pivots_along(alloc, game, self.seed)?;
         let mut walked = Walked {
             boxes: 0,
             pivots: 0,
@@ -104,28 +106,9 @@ impl Play {
             if !self.still || *pivots == 0 {
                 self.part.done(alloc, game, &bx)?;
             }
-            set_next(&mut bx, depth, self.made.number());
+            set_next(&mut bx, depth, self.seed);
         }
         Ok(())
-    }
-}
-
-/// How many boxes were gone through, and how many pivots their runs make.
-pub fn boxes_line(alloc: Global, words: &[String]) -> Result<String, AllocError> {
-    match Play::read(words) {
-        Some(play) => walked_line(alloc, play.walked(alloc)),
-        None => unasked(alloc),
-    }
-}
-
-fn walked_line(alloc: Global, walked: Result<Walked, Memory>) -> Result<String, AllocError> {
-    match walked {
-        Ok(walked) => {
-            let boxes = walked.boxes;
-            let pivots = walked.pivots;
-            format!(in alloc; "{boxes} {pivots}")
-        }
-        Err(Memory) => memory(alloc),
     }
 }
 

@@ -3,9 +3,7 @@ ghost use Rattle.qm_lex.specs.Texts.{AreTokens};
 ghost use Rattle.qm_model.specs.Boxes.{IsBox, IsEmptyRange};
 ghost use Rattle.qm_parse.specs.Parsing.{IsParsed};
 
-use crate::answer::{memory, unasked};
-use crate::made::Made;
-use crate::shapes::{Density, text_of};
+use crate::drawn::{Density, text_of};
 use crate::texts::MOST;
 use qm_game::{Bx, Game, has_empty, whole_box};
 use qm_io::{List, Memory};
@@ -14,7 +12,7 @@ use qm_normal::{normal, trees_of_texts_are_in_order};
 use qm_parse::{Ast, parse};
 use qm_simplex::{LpEnd, LpFault, solve_lp};
 use qm_tableau::{Choice, Tableau, first};
-use std::alloc::{AllocError, Global};
+use std::alloc::Global;
 
 /// How runs end.
 #[derive(Clone, Copy)]
@@ -59,60 +57,38 @@ impl Ended {
     }
 }
 
-// So many runs at the root of a made problem.
+/// So many runs at the root of the problem of so many variables that the seed decides.
 #[derive(Clone, Copy)]
-struct Runs {
+pub struct Runs {
     density: Density,
-    made: Made,
+    size: u32,
+    seed: u32,
     times: u32,
 }
 
 impl Runs {
-    fn read(density: &str, size: &str, number: &str, times: &str) -> Option<Runs> {
+    pub fn read(density: &str, size: &str, seed: &str, times: &str) -> Option<Runs> {
         Some(Runs {
             density: match density {
                 "runs" => Density::Dense,
                 "sparse-runs" => Density::Sparse,
                 _ => return None,
             },
-            made: Made::read(size, number)?,
+            size: size.parse::<u32>().ok()?,
+            seed: seed.parse::<u32>().ok()?,
             times: times.parse::<u32>().ok()?,
         })
     }
 
-    // How the last run ends; `None` where there is no run, or no such problem.
-    fn last(self, alloc: Global) -> Result<Ended, Memory> {
-        let text = text_of(alloc, self.density, self.made)?;
-        match game_of(alloc, text.as_bytes()) {
+    /// How the last run ends; `None` where there is no run, or no such problem.
+    pub fn last(self, alloc: Global) -> Result<Ended, Memory> {
+        let text = text_of(alloc, self.density, self.size, self.size, self.seed).map_err(
+            |_| Memory,
+        )?;
+        match game_of(alloc, &text) {
             Some(game) => last_on(alloc, &game, self.times),
             None => Ok(Ended::none()),
         }
-    }
-}
-
-/// How the last run over a made problem ends, after how many pivots, and how many of these left whole numbers.
-pub fn runs_line(
-    alloc: Global,
-    density: &str,
-    size: &str,
-    number: &str,
-    times: &str,
-) -> Result<String, AllocError> {
-    match Runs::read(density, size, number, times) {
-        Some(runs) => ended_line(alloc, runs.last(alloc)),
-        None => unasked(alloc),
-    }
-}
-
-fn ended_line(alloc: Global, ended: Result<Ended, Memory>) -> Result<String, AllocError> {
-    match ended {
-        Ok(ended) => {
-            let word = ended.ending.word();
-            let pivots = ended.pivots;
-            let whole = ended.whole;
-            format!(in alloc; "{word} {pivots} {whole}")
-        }
-        Err(Memory) => memory(alloc),
     }
 }
 

@@ -1,23 +1,21 @@
 ghost use Rattle.qm_model.specs.Boxes.{IsBox};
 
-use crate::answer::{memory, unasked};
-use crate::made::Made;
+use crate::drawn::{Density, text_of};
 use crate::runs::game_of;
-use crate::shapes::{Density, text_of};
 use qm_game::{Bx, Game, whole_box};
 use qm_io::{List, Memory};
 use qm_tableau::{Tableau, first};
-use std::alloc::{AllocError, Global};
+use std::alloc::Global;
 
-// The first tableau of the first made problem of a size, dense or sparse.
+/// The first tableau of a made problem, dense or sparse, of so many variables.
 #[derive(Clone, Copy)]
-struct Shape {
+pub struct Shape {
     density: Density,
-    made: Made,
+    size: u32,
 }
 
 impl Shape {
-    fn read(word: &str) -> Option<Shape> {
+    pub fn read(word: &str) -> Option<Shape> {
         let (size, density) = word.split_once('-')?;
         let density = match density {
             "dense" => Density::Dense,
@@ -26,22 +24,22 @@ impl Shape {
         };
         Some(Shape {
             density,
-            made: Made::new(size.parse::<u32>().ok()?, 1)?,
+            size: size.parse::<u32>().ok()?,
         })
     }
 }
 
-// How many pivots were done, and how many of these left whole numbers over one denominator a row.
+/// How many pivots were done, and how many of these left whole numbers over one denominator a row.
 #[derive(Clone, Copy)]
-struct Done {
-    pivots: u32,
-    whole: u32,
+pub struct Done {
+    pub pivots: u32,
+    pub whole: u32,
 }
 
 // The first tableau of this shape; none where no such game is.
-fn first_tableau(alloc: Global, shape: Shape) -> Result<Option<Tableau>, Memory> {
-    let text = text_of(alloc, shape.density, shape.made)?;
-    match game_of(alloc, text.as_bytes()) {
+fn made(alloc: Global, shape: Shape) -> Result<Option<Tableau>, Memory> {
+    let text = text_of(alloc, shape.density, shape.size, shape.size, 1).map_err(|_| Memory)?;
+    match game_of(alloc, &text) {
         Some(game) => {
             let bx = whole_box(alloc, &game)?;
             Ok(Some(first_of(alloc, &game, &bx)?))
@@ -84,14 +82,14 @@ fn place(tableau: &Tableau, turn: u32) -> (u32, u32) {
     (row, (turn / slacks % columns).wrapping_add(1))
 }
 
-// What was done in so many turns. In each, a pivot is made where there is a positive entry, and a second one that
-// takes it back, so that the entries stay small.
-fn pivots(alloc: Global, shape: Shape, turns: u32) -> Result<Done, Memory> {
+/// What was done in so many turns. In each, a pivot is made where there is a positive entry, and a second one that
+/// takes it back, so that the entries stay small.
+pub fn pivots(alloc: Global, shape: Shape, turns: u32) -> Result<Done, Memory> {
     let mut done = Done {
         pivots: 0,
         whole: 0,
     };
-    if let Some(mut tableau) = first_tableau(alloc, shape)? {
+    if let Some(mut tableau) = made(alloc, shape)? {
         for turn in 0..turns {
             let (row, col) = place(&tableau, turn);
             let back = row_of_column(&tableau, col);
@@ -104,23 +102,4 @@ fn pivots(alloc: Global, shape: Shape, turns: u32) -> Result<Done, Memory> {
         }
     }
     Ok(done)
-}
-
-/// How many pivots were done, and how many of these left whole numbers.
-pub fn pivots_line(alloc: Global, shape: &str, turns: &str) -> Result<String, AllocError> {
-    match (Shape::read(shape), turns.parse::<u32>().ok()) {
-        (Some(shape), Some(turns)) => done_line(alloc, pivots(alloc, shape, turns)),
-        _ => unasked(alloc),
-    }
-}
-
-fn done_line(alloc: Global, done: Result<Done, Memory>) -> Result<String, AllocError> {
-    match done {
-        Ok(done) => {
-            let pivots = done.pivots;
-            let whole = done.whole;
-            format!(in alloc; "{pivots} {whole}")
-        }
-        Err(Memory) => memory(alloc),
-    }
 }

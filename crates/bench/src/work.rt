@@ -1,13 +1,11 @@
-use crate::answer::unasked;
-use crate::operands::{Operands, Pair};
+use crate::operands::Pair;
 use qm_frac::{Frac, Leaves, gcd};
-use std::alloc::{AllocError, Global};
 use std::cmp::Ordering;
 
-// What is timed. A plain operation is the one on 128 bits with checks against overflow: for whole numbers
-// the operation alone, for fractions the products crosswise and one greatest common divisor.
+/// What is timed. A plain operation is the one on 128 bits with checks against overflow: for whole numbers
+/// the operation alone, for fractions the products crosswise and one greatest common divisor.
 #[derive(Clone, Copy)]
-enum Work {
+pub enum Work {
     Add,
     Sub,
     Mul,
@@ -20,7 +18,7 @@ enum Work {
 }
 
 impl Work {
-    fn read(word: &str) -> Option<Work> {
+    pub fn read(word: &str) -> Option<Work> {
         match word {
             "add" => Some(Work::Add),
             "sub" => Some(Work::Sub),
@@ -36,8 +34,8 @@ impl Work {
     }
 }
 
-// A number made of all the answers. Each turn does the work twenty times for each pair.
-fn answers(work: Work, pairs: &[Pair], thousands: u32) -> u64 {
+/// A number made of all the answers. Each turn does the work twenty times for each pair.
+pub fn answers(work: Work, pairs: &[Pair], thousands: u32) -> u64 {
     match work {
         Work::Add => repeated(pairs, thousands, |p| bits(p.left.add(p.right))),
         Work::Sub => repeated(pairs, thousands, |p| bits(p.left.sub(p.right))),
@@ -48,26 +46,6 @@ fn answers(work: Work, pairs: &[Pair], thousands: u32) -> u64 {
         Work::PlainAdd => repeated(pairs, thousands, |p| plain_sum(p)),
         Work::PlainMul => repeated(pairs, thousands, |p| plain_product(p)),
         Work::PlainCmp => repeated(pairs, thousands, |p| plain_order(p)),
-    }
-}
-
-/// A number made of all the answers.
-pub fn work_line(
-    alloc: Global,
-    work: &str,
-    operands: &str,
-    thousands: &str,
-) -> Result<String, AllocError> {
-    match (
-        Work::read(work),
-        Operands::read(operands),
-        thousands.parse::<u32>().ok(),
-    ) {
-        (Some(work), Some(operands), Some(thousands)) => {
-            let sum = answers(work, &operands.pairs(), thousands);
-            format!(in alloc; "{sum}")
-        }
-        _ => unasked(alloc),
     }
 }
 

@@ -1,2 +1,0 @@
-pub mod SetBoxes
-pub mod Along
