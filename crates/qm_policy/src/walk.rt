@@ -1,10 +1,10 @@
-ghost use Rattle.std.specs.Prelude.{◌≡◌, ◌+◌, ◌<◌, ℤ, List, [], drop, length, slice_set, true, Ok};
+ghost use Rattle.std.specs.Prelude.{◌≡◌, ◌+◌, ◌<◌, ◌≤◌, ℤ, List, [], drop, length, slice_set, true, Ok};
 ghost use Rattle.qm_model.specs.Boxes.{IsBox, IsInside, whole_box_of};
 ghost use Rattle.qm_model.specs.Goals.{AtLeast};
 ghost use Rattle.qm_model.specs.Plays.{IsPlay, whole_vars};
 ghost use Rattle.qm_model.specs.Ranges.{range_at};
 ghost use Rattle.qm_model.specs.Wins.{Wins};
-ghost use Rattle.qm_trees.specs.PolicyRight.{IsRightPolicy};
+ghost use Rattle.qm_trees.specs.PolicyRight.{IsRightPolicy, IsPolicyInRange};
 ghost use Rattle.qm_trees.specs.Reaching.{PolicyReaches};
 ghost use Rattle.qm_trees.specs.declared.policy.Policy.{out-Policy};
 ghost use Rattle.qm_trees.specs.Verdicts.{answer_of};
@@ -33,15 +33,37 @@ pub fn test(game: &Game, bx: &mut Bx, value: &Frac, policy: &Policy) -> Result<b
     ensures wins { result ≡ Ok true → bx.old ≡ whole_box_of game.now.vars → Wins game.now [] (AtLeast value.now) }
     ensures same { bx.new ≡ bx.old }
 {
+    // that the game is sound
+    let _problem = game.problem();
+    test_from(game, 0, bx, value, policy)
+}
+
+/// Whether the policy, which begins at this depth, reaches the value from each prefix in the box that universal plays
+/// have: each rule is met, in the order of the text. Leaves where the first operation leaves, if no rule is broken
+/// before. The box stays as it was.
+pub fn test_from(
+    game: &Game,
+    depth: usize,
+    bx: &mut Bx,
+    value: &Frac,
+    policy: &Policy,
+) -> Result<bool, Leaves>
+    requires depth { depth ≤ game.now.wholes }
+    requires bx { IsBox game.now.vars bx.old }
+    ensures answer { result ≡ answer_of (judge_policy game.now value.now (drop depth (whole_vars game.now)) depth bx.old policy.now) }
+    ensures right { result ≡ Ok true → IsRightPolicy game.now value.now (drop depth (whole_vars game.now)) depth bx.old policy.now }
+    ensures in_range { result ≡ Ok true → IsPolicyInRange game.now value.now (drop depth (whole_vars game.now)) depth bx.old policy.now }
+    ensures same { bx.new ≡ bx.old }
+{
     let _positive = value.den();
     // that the game is sound
     let _problem = game.problem();
-    test_from(Place::at(game, 0), bx, *value, policy)
+    test_here(Place::at(game, depth), bx, *value, policy)
 }
 
 /// Whether the policy passes from a place on.
 #[cycle(judge)]
-fn test_from(here: Place<'_>, bx: &mut Bx, value: Frac, policy: &Policy) -> Result<bool, Leaves>
+fn test_here(here: Place<'_>, bx: &mut Bx, value: Frac, policy: &Policy) -> Result<bool, Leaves>
     requires { IsBox here.game.now.vars bx.old }
     ensures answer { result ≡ answer_of (judge_policy here.entry.game.now value here.entry.rest.now here.entry.depth bx.old policy.now) }
     ensures same { bx.new ≡ bx.old }
@@ -153,7 +175,7 @@ fn test_below(
 {
     let before = here.range(bx);
     here.put(bx, range);
-    let answer = test_from(here.behind(), bx, value, policy);
+    let answer = test_here(here.behind(), bx, value, policy);
     here.put(bx, before);
     answer
 }

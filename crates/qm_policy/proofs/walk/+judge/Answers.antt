@@ -9,11 +9,11 @@ use Rattle.qm_cover.proofs.PartSteps.{part_inside, part_leaves, part_fails, part
 use Rattle.qm_policy.proofs.Steps.{answer_judged}
 use Rattle.qm_policy.proofs.walk.+judge.Goals as goal
 
-pub test_from-test_end-requires : goal.test_from-test_end-requires
-test_from-test_end-requires t c = IsBox-length c.args.here.game.now.vars c.args.bx.now c.requires
+pub test_here-test_end-requires : goal.test_here-test_end-requires
+test_here-test_end-requires t c = IsBox-length c.args.here.game.now.vars c.args.bx.now c.requires
 
-pub test_from-returns-in-Answer-clause-answer : goal.test_from-returns-in-Answer-clause-answer
-test_from-returns-in-Answer-clause-answer t c =
+pub test_here-returns-in-Answer-clause-answer : goal.test_here-returns-in-Answer-clause-answer
+test_here-returns-in-Answer-clause-answer t c =
     c.test_answer.ensures.answer
     ∙ answer_judged c.args.here.game.now c.args.value c.args.here.rest.now c.args.here.depth c.args.bx.now c.args.policy.now c.in-Answer.parts _ c.in-Answer.is c.as_slice.ensures
 

@@ -4,8 +4,8 @@ use Rattle.qm_cover.proofs.PartSteps.{ArePassed}
 use Rattle.qm_policy.specs.Parts.{judge_part}
 use Rattle.qm_policy.proofs.walk.+judge.Given as goal
 
-abbrev pub decreases-test_from : goal.decreases-test_from
-decreases-test_from l = 5 * length l.here.rest.now
+abbrev pub decreases-test_here : goal.decreases-test_here
+decreases-test_here l = 5 * length l.here.rest.now
 
 abbrev pub decreases-test_answer : goal.decreases-test_answer
 decreases-test_answer l = 5 * length l.here.rest.now - 1
