@@ -1,8 +1,9 @@
 -- The values of a universal variable: one more, and what all come to.
-use Rattle.std.proofs.Common.{◌≡◌, ℕ, ◌+◌, List, [], ◌∷◌, ◌++◌, map, drop, get_or, All, arith, refl, sym, ap, subst, ◌∙◌, ℤ, pos, ◌+ℤ◌, ◌≤ℤ◌, ◌<ℤ◌, Option, Some, None}
+use Rattle.std.proofs.Common.{◌≡◌, ℕ, ◌+◌, List, [], ◌∷◌, ◌++◌, map, drop, get_or, set, All, arith, refl, sym, ap, subst, ◌∙◌, ℤ, pos, ◌+ℤ◌, ◌≤ℤ◌, ◌<ℤ◌, Option, Some, None}
 use Rattle.std.specs.Prelude.{slice_set, IsSome, IsSomeAnd}
 use Rattle.std.proofs.lemmas.Int.{ints}
-use Rattle.std.proofs.lemmas.List.Elements.{All-push}
+use Rattle.std.proofs.lemmas.List.Elements.{All-append, All-cons, All-nil, All-push}
+use Rattle.std.proofs.lemmas.List.{set-get_or}
 use Rattle.qm_math.specs.Fraction.{Fraction, HasPositiveDen, IsAtMost, IsBelow}
 use Rattle.qm_math.proofs.Compare.{below_at_most, below_at_most_weak}
 use Rattle.qm_model.specs.declared.range.Range.{Range}
@@ -30,11 +31,14 @@ use Rattle.qm_search.specs.declared.answers.Answers.{Answers}
 use Rattle.qm_search.specs.declared.answers.Worst.{Worst}
 use Rattle.qm_search.specs.declared.window.Window.{Window}
 use Rattle.qm_search.specs.declared.outcome.Outcome.{Outcome}
-use Rattle.qm_search.specs.AnswerSteps.{AreAnswers, IsAnswered, IsLeast, IsOver, IsSecured, IsWorst, SecuresCap, answer_window, cap_below}
+use Rattle.qm_search.specs.declared.outcome.Outcome.TheVariants.{At, Over, Under}
+use Rattle.qm_search.specs.AnswerSteps.{AreAnswers, IsAnswered, IsLeast, IsOver, IsSecured, IsWorst, SecuresCap, answer_window, cap_below, at_worst}
 use Rattle.qm_search.specs.OutcomeSteps.{IsAbove, IsInWindow, IsOutcome, Secures, SecuresBelow}
 use Rattle.qm_search.specs.PartSteps.{AreSingles, IsPast}
+use Rattle.qm_search.specs.RootSteps.{IsInside}
 use Rattle.qm_search.specs.Windows.{IsCapped, IsProperCap, IsProperWindow, IsUncapped}
-use Rattle.qm_search.proofs.SingleParts.{push_singles, singles_cover}
+use Rattle.qm_search.proofs.HarderGoals.{not_below}
+use Rattle.qm_search.proofs.SingleParts.{append_singles, push_singles, singles_cover}
 
 -- a policy that reaches a value reaches each one that is no greater
 pub secures_less : (P : Problem) (rest : List Var) (depth : ℕ) (bx : List Range) (v w : Fraction) (policy : Policy) → HasPositiveDen v → IsAtMost w v → Secures P rest depth bx v policy
@@ -89,6 +93,43 @@ module _ (P : Problem) (rest : List Var) (depth : ℕ) (bx : List Range) where
   parts_less (Some cap) value parts proper below kept =
       λ k d h. below_less P (drop 1 rest) (depth + 1) (slice_set bx depth (range_of (get_or parts k d))) cap value (below_of (get_or parts k d)) proper (below_at_most_weak value cap below) (kept k d h)
 
+not_first : (first next : ℤ) → (next ≡ first → ⊥) → (first <ℤ next → ⊥) → first <ℤ (next +ℤ pos 1) → ⊥
+not_first first next other before less = other (omega (arith, ints, before, less))
+
+-- ---- the cap as values come
+
+module _ (P : Problem) (cuts : List Row) (heads : List Head) (rest : List Var) (depth : ℕ) (bx : List Range) (W : Window) (first low next : ℤ) (proper : IsProperWindow W) where
+  -- the cap of the next value is a fraction
+  proper_cap : (worst : Option Worst) → IsWorst P cuts heads rest depth bx W first low next worst → IsProperCap (cap_below W.cap worst)
+  proper_cap None before = proper.cap
+  proper_cap (Some worst) is = is.positive
+
+  below_first : (cap : Option Fraction) (value w : Fraction) → IsProperCap cap → HasPositiveDen w → IsBelow value w → IsUncapped cap w → IsUncapped cap value
+  below_first None value w proper positive less below = tt
+  below_first (Some cap) value w proper positive less below = below_at_most value w cap proper less (below_at_most_weak w cap below)
+
+  -- a value below it is below the window's
+  uncapped : (value : Fraction) (worst : Option Worst) → IsWorst P cuts heads rest depth bx W first low next worst → IsUncapped (cap_below W.cap worst) value → IsUncapped W.cap value
+  uncapped value None before below = below
+  uncapped value (Some worst) is below = below_first W.cap value worst.value proper.cap is.positive below is.uncapped
+
+  -- an outcome in the window of the next value is one in the window
+  pub wider_outcome : (worst : Option Worst) → IsWorst P cuts heads rest depth bx W first low next worst → (outcome : Outcome) → IsInside outcome → IsOutcome P cuts heads rest depth bx (answer_window W worst) outcome
+      → IsOutcome P cuts heads rest depth bx W outcome
+  wider_outcome worst is (Under tree) inside outcome = outcome
+  wider_outcome worst is (At value policy tree) inside outcome =
+      record { reached = outcome.reached; reaches = outcome.reaches; uncapped = uncapped value worst is outcome.uncapped }
+  wider_outcome worst is (Over value policy) inside outcome = absurd inside
+
+  pub worst_outcome : (worst : Option Worst) → IsWorst P cuts heads rest depth bx W first low next worst → (value : Fraction) (policy : Policy) → IsAbove P rest depth bx (answer_window W worst) value policy
+      → IsOutcome P cuts heads rest depth bx W (at_worst worst value policy)
+  worst_outcome None is value policy above = record { positive = above.positive; secures = above.secures; capped = above.capped }
+  worst_outcome (Some worst) is value policy above = record {
+    reached = record { positive = is.positive; secures = secures_less P rest depth bx value worst.value policy above.positive above.capped above.secures; refutes = is.refutes };
+    reaches = is.reaches;
+    uncapped = is.uncapped;
+  }
+
 module _ (P : Problem) (cuts : List Row) (heads : List Head) (rest : List Var) (depth : ℕ) (bx : List Range) (W : Window) (first low next : ℤ) (answers : Answers)
     (are : AreAnswers P cuts heads rest depth bx W first low next answers) (parts : List PolicyPart) (part : PolicyPart) (pushed : parts ≡ answers.parts ++ part ∷ []) (range : range_of part ≡ single next) where
   pushed_singles : AreSingles low (next +ℤ pos 1) (map range_of parts)
@@ -100,12 +141,9 @@ module _ (P : Problem) (cuts : List Row) (heads : List Head) (rest : List Var) (
   pushed_kept : (cap : Option Fraction) → All (IsKept P rest depth bx cap) answers.parts → IsKept P rest depth bx cap part → All (IsKept P rest depth bx cap) parts
   pushed_kept cap kept last = subst (All (IsKept P rest depth bx cap)) (sym pushed) (All-push (IsKept P rest depth bx cap) answers.parts part kept last)
 
-  next_at_most : (next ≡ first → ⊥) → next ≤ℤ first → (next +ℤ pos 1) ≤ℤ first
-  next_at_most other before = omega (arith, ints, other, before)
-
   -- one more behind which the cap is kept; where there is none, it isn't the first
-  same_worst : (worst : Option Worst) → (cap_below W.cap worst ≡ None → next ≡ first → ⊥) → IsWorst P cuts heads rest depth bx W first next worst → IsWorst P cuts heads rest depth bx W first (next +ℤ pos 1) worst
-  same_worst None other before = λ none. next_at_most (other none) (before none)
+  same_worst : (worst : Option Worst) → (cap_below W.cap worst ≡ None → next ≡ first → ⊥) → IsWorst P cuts heads rest depth bx W first low next worst → IsWorst P cuts heads rest depth bx W first low (next +ℤ pos 1) worst
+  same_worst None other before = λ none from. not_first first next (other none) (before none from)
   same_worst (Some worst) other is = is
 
   kept_answer : (cap_now ≡ None → next ≡ first → ⊥) → IsKept P rest depth bx cap_now part → AreAnswers P cuts heads rest depth bx W first low (next +ℤ pos 1) (record { worst = answers.worst; parts = parts })
@@ -139,28 +177,16 @@ module _ (P : Problem) (cuts : List Row) (heads : List Head) (rest : List Var) (
   -- one value more that leads to less
   module _ (proper : IsProperWindow W) (value : Fraction) (policy : Policy) (tree : Refute) (is : below_of part ≡ policy_node.On policy)
       (answered : IsAnswered P cuts heads rest depth bx (answer_window W answers.worst) next value policy tree) where
-    proper_cap : (worst : Option Worst) → IsWorst P cuts heads rest depth bx W first next worst → IsProperCap (cap_below W.cap worst)
-    proper_cap None before = proper.cap
-    proper_cap (Some worst) is = is.positive
-
-    below_first : (cap : Option Fraction) (w : Fraction) → IsProperCap cap → IsBelow value w → IsUncapped cap w → IsUncapped cap value
-    below_first None w positive less below = tt
-    below_first (Some cap) w positive less below = below_at_most value w cap positive less (below_at_most_weak w cap below)
-
-    uncapped : (worst : Option Worst) → IsWorst P cuts heads rest depth bx W first next worst → IsUncapped (cap_below W.cap worst) value → IsUncapped W.cap value
-    uncapped None before below = below
-    uncapped (Some worst) is below = below_first W.cap worst.value proper.cap below is.uncapped
-
     pub reached_answer : AreAnswers P cuts heads rest depth bx W first low (next +ℤ pos 1) (record { worst = Some (record { value = value; refute = tree }); parts = parts })
     reached_answer = record {
       singles = pushed_singles;
-      below = pushed_kept (Some value) (parts_less P rest depth bx cap_now value answers.parts (proper_cap answers.worst are.worst) answered.uncapped are.below)
+      below = pushed_kept (Some value) (parts_less P rest depth bx cap_now value answers.parts (proper_cap P cuts heads rest depth bx W first low next proper answers.worst are.worst) answered.uncapped are.below)
           (policy_kept P rest depth bx next part range value policy is answered.secures);
       worst = record {
         positive = answered.positive;
         refutes = answered.refutes;
         reaches = answered.reaches;
-        uncapped = uncapped answers.worst are.worst answered.uncapped;
+        uncapped = uncapped P cuts heads rest depth bx W first low next proper value answers.worst are.worst answered.uncapped;
       };
     }
 
@@ -179,11 +205,34 @@ parts_secure P (x ∷ later) depth bx next value parts player singles past below
   in_range = subst (policy_right.IsMoveInRange P depth (IsPolicyInRange P value later (depth + 1)) bx) (sym (answers_is parts)) (λ k d h. (below k d h).in_range);
 }
 
+-- so does one part of the whole range
+pub all_secure : (P : Problem) (rest : List Var) (depth : ℕ) (bx : List Range) (value : Fraction) (policy : Policy) (part : PolicyPart) → SetsNext Universal rest → range_of part ≡ range_at bx depth
+    → (range_at bx depth).low ≤ℤ (range_at bx depth).high → below_of part ≡ policy_node.On policy → Secures P (drop 1 rest) (depth + 1) bx value policy → Secures P rest depth bx value (Answer (part ∷ []))
+all_secure P [] depth bx value policy part player range some is secures = absurd player
+all_secure P (x ∷ later) depth bx value policy part player range some is secures =
+    let same : set bx depth (range_of part) ≡ bx = ap (set bx depth) range ∙ set-get_or bx depth (single (pos 0)) in
+    let low = ap (λ (r : Range). r.low) range in
+    let high = ap (λ (r : Range). r.high) range in
+    let below : SecuresBelow P later (depth + 1) (set bx depth (range_of part)) value (below_of part) =
+    subst (λ b. SecuresBelow P later (depth + 1) b value (below_of part)) (sym same)
+    (subst (SecuresBelow P later (depth + 1) bx value) (sym is) (record { right = secures.right; in_range = secures.in_range })) in
+    record {
+      right = subst (policy_right.IsRightMove P x depth (IsRightPolicy P value later (depth + 1)) bx) (sym (answers_is (part ∷ []))) (
+        player,
+        (low, omega (arith, ints, some, high), ap (λ n. n +ℤ pos 1) high),
+        All-cons (λ p. policy_right.IsRightBelow P (IsRightPolicy P value later (depth + 1)) (set bx depth (range_of p)) (below_of p)) part [] below.right
+            (All-nil (λ p. policy_right.IsRightBelow P (IsRightPolicy P value later (depth + 1)) (set bx depth (range_of p)) (below_of p))),
+      );
+      in_range = subst (policy_right.IsMoveInRange P depth (IsPolicyInRange P value later (depth + 1)) bx) (sym (answers_is (part ∷ [])))
+          (All-cons (λ p. policy_right.IsBelowInRange P (IsPolicyInRange P value later (depth + 1)) (set bx depth (range_of p)) (below_of p)) part [] below.in_range
+          (All-nil (λ p. policy_right.IsBelowInRange P (IsPolicyInRange P value later (depth + 1)) (set bx depth (range_of p)) (below_of p))));
+    }
+
 module _ (P : Problem) (cuts : List Row) (heads : List Head) (rest : List Var) (depth : ℕ) (bx : List Range) (W : Window) (first next : ℤ) (answers : Answers)
     (player : SetsNext Universal rest) (are : AreAnswers P cuts heads rest depth bx W first (range_at bx depth).low next answers) (past : IsPast (range_at bx depth) next) where
   pub worst_in_window : (worst : Worst) → answers.worst ≡ Some worst → IsInWindow P cuts heads rest depth bx W worst.value (Answer answers.parts) worst.refute
   worst_in_window worst e =
-      let least : IsLeast P cuts heads rest depth bx W worst = subst (IsWorst P cuts heads rest depth bx W first next) e are.worst in
+      let least : IsLeast P cuts heads rest depth bx W worst = subst (IsWorst P cuts heads rest depth bx W first (range_at bx depth).low next) e are.worst in
       let below = subst (λ w. All (IsKept P rest depth bx (cap_below W.cap w)) answers.parts) e are.below in
       record {
         reached = record {
@@ -208,22 +257,64 @@ module _ (P : Problem) (cuts : List Row) (heads : List Head) (rest : List Var) (
   over_outcome e None same outcome is = absurd is
   over_outcome e (Some cap) same outcome is = subst (IsOutcome P cuts heads rest depth bx W) (sym is.1) (cap_secured cap e (sym same) is.0)
 
--- where a legal value lies before `next`, there is a worst or a cap
-some_cap : (P : Problem) (cuts : List Row) (heads : List Head) (rest : List Var) (depth : ℕ) (bx : List Range) (W : Window) (first next : ℤ) (worst : Option Worst)
-    → IsWorst P cuts heads rest depth bx W first next worst → first <ℤ next → (cap : Option Fraction) → cap ≡ W.cap → IsSome (cap_below cap worst)
-some_cap P cuts heads rest depth bx W first next (Some w) is above cap e = refl
-some_cap P cuts heads rest depth bx W first next None before above (Some c) e = refl
-some_cap P cuts heads rest depth bx W first next None before above None e = absurd (omega (arith, ints, before (sym e), above))
+-- where a legal value is one of them, there is a worst or a cap
+some_cap : (P : Problem) (cuts : List Row) (heads : List Head) (rest : List Var) (depth : ℕ) (bx : List Range) (W : Window) (first low next : ℤ) (worst : Option Worst)
+    → IsWorst P cuts heads rest depth bx W first low next worst → low ≤ℤ first → first <ℤ next → (cap : Option Fraction) → cap ≡ W.cap → IsSome (cap_below cap worst)
+some_cap P cuts heads rest depth bx W first low next (Some w) is from above cap e = refl
+some_cap P cuts heads rest depth bx W first low next None before from above (Some c) e = refl
+some_cap P cuts heads rest depth bx W first low next None before from above None e = absurd (before (sym e) from above)
 
 pub some_answered : (P : Problem) (cuts : List Row) (heads : List Head) (rest : List Var) (depth : ℕ) (bx : List Range) (W : Window) (first low next : ℤ) (answers : Answers)
-    → AreAnswers P cuts heads rest depth bx W first low next answers → first <ℤ next → IsSome (cap_below W.cap answers.worst)
-some_answered P cuts heads rest depth bx W first low next answers are above = some_cap P cuts heads rest depth bx W first next answers.worst are.worst above W.cap refl
+    → AreAnswers P cuts heads rest depth bx W first low next answers → low ≤ℤ first → first <ℤ next → IsSome (cap_below W.cap answers.worst)
+some_answered P cuts heads rest depth bx W first low next answers are from above = some_cap P cuts heads rest depth bx W first low next answers.worst are.worst from above W.cap refl
 
 -- the window of the next value is one of fractions
 pub answer_window_proper : (P : Problem) (cuts : List Row) (heads : List Head) (rest : List Var) (depth : ℕ) (bx : List Range) (W : Window) (first low next : ℤ) (answers : Answers) → IsProperWindow W
     → AreAnswers P cuts heads rest depth bx W first low next answers → IsProperWindow (answer_window W answers.worst)
 answer_window_proper P cuts heads rest depth bx W first low next answers proper are = record { floor = proper.floor; cap = cap answers.worst are.worst }
   where
-    cap : (worst : Option Worst) → IsWorst P cuts heads rest depth bx W first next worst → IsProperCap (cap_below W.cap worst)
+    cap : (worst : Option Worst) → IsWorst P cuts heads rest depth bx W first low next worst → IsProperCap (cap_below W.cap worst)
     cap None is = proper.cap
     cap (Some worst) is = is.positive
+
+-- ---- values, and those behind them that were answered before
+
+module _ (P : Problem) (cuts : List Row) (heads : List Head) (rest : List Var) (depth : ℕ) (bx : List Range) (W : Window) (first low middle next : ℤ) (proper : IsProperWindow W) (lower upper : Answers)
+    (behind : AreAnswers P cuts heads rest depth bx W first middle next upper) (are : AreAnswers P cuts heads rest depth bx (answer_window W upper.worst) first low middle lower) where
+  abbrev former : Option Fraction
+  former = cap_below W.cap upper.worst
+
+  all_singles : AreSingles low next (map range_of (lower.parts ++ upper.parts))
+  all_singles = append_singles range_of low middle next lower.parts upper.parts are.singles behind.singles
+
+  not_one : (first <ℤ middle → ⊥) → (middle ≤ℤ first → first <ℤ next → ⊥) → first <ℤ next → ⊥
+  not_one before after less = after (not_below first middle before) less
+
+  worst_behind : lower.worst ≡ None → (worst : Option Worst) → upper.worst ≡ worst → IsWorst P cuts heads rest depth bx W first low next worst
+  worst_behind e None g = λ none from.
+      let last = subst (IsWorst P cuts heads rest depth bx W first middle next) g behind.worst in
+      let earlier = subst (IsWorst P cuts heads rest depth bx (answer_window W upper.worst) first low middle) e are.worst in
+      not_one (earlier (ap (cap_below W.cap) g ∙ none) from) (last none)
+  worst_behind e (Some worst) g = subst (IsWorst P cuts heads rest depth bx W first middle next) g behind.worst
+
+  pub none_worse : lower.worst ≡ None → AreAnswers P cuts heads rest depth bx W first low next (record { worst = upper.worst; parts = lower.parts ++ upper.parts })
+  none_worse e = record {
+    singles = all_singles;
+    below = All-append (IsKept P rest depth bx former) lower.parts upper.parts (subst (λ w. All (IsKept P rest depth bx (cap_below former w)) lower.parts) e are.below) behind.below;
+    worst = worst_behind e upper.worst refl;
+  }
+
+  pub one_worse : (worst : Worst) → lower.worst ≡ Some worst → AreAnswers P cuts heads rest depth bx W first low next (record { worst = Some worst; parts = lower.parts ++ upper.parts })
+  one_worse worst e =
+      let least : IsLeast P cuts heads rest depth bx (answer_window W upper.worst) worst = subst (IsWorst P cuts heads rest depth bx (answer_window W upper.worst) first low middle) e are.worst in
+      record {
+        singles = all_singles;
+        below = All-append (IsKept P rest depth bx (Some worst.value)) lower.parts upper.parts (subst (λ w. All (IsKept P rest depth bx (cap_below former w)) lower.parts) e are.below)
+            (parts_less P rest depth bx former worst.value upper.parts (proper_cap P cuts heads rest depth bx W first middle next proper upper.worst behind.worst) least.uncapped behind.below);
+        worst = record {
+          positive = least.positive;
+          refutes = least.refutes;
+          reaches = least.reaches;
+          uncapped = uncapped P cuts heads rest depth bx W first middle next proper worst.value upper.worst behind.worst least.uncapped;
+        };
+      }

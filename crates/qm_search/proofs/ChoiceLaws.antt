@@ -2,7 +2,7 @@
 use Rattle.std.proofs.Common.{◌≡◌, ℕ, ◌+◌, List, [], ◌∷◌, ◌++◌, map, drop, get_or, All, arith, sym, ap, subst, ◌∙◌, ℤ, pos, ◌+ℤ◌, ◌≤ℤ◌, ◌<ℤ◌, Option, Some, None}
 use Rattle.std.specs.Prelude.{slice_set}
 use Rattle.std.proofs.lemmas.Int.{ints}
-use Rattle.std.proofs.lemmas.List.Elements.{All-push}
+use Rattle.std.proofs.lemmas.List.Elements.{All-append, All-push}
 use Rattle.qm_math.specs.Fraction.{Fraction}
 use Rattle.qm_math.specs.Ranges.{IsBetween}
 use Rattle.qm_game.specs.Goals.{goal_of}
@@ -30,12 +30,12 @@ use Rattle.qm_legal.specs.SearchSteps.{SetsNext}
 use Rattle.qm_search.specs.declared.choices.Best.{Best}
 use Rattle.qm_search.specs.declared.choices.Choices.{Choices}
 use Rattle.qm_search.specs.declared.window.Window.{Window}
-use Rattle.qm_search.specs.ChoiceSteps.{AreChoices, IsBest, choice_window, floor_beyond}
+use Rattle.qm_search.specs.ChoiceSteps.{AreChoices, IsBest, IsTried, choice_window, floor_beyond}
 use Rattle.qm_search.specs.OutcomeSteps.{IsInWindow, Secures, Refutes}
 use Rattle.qm_search.specs.PartSteps.{AreSingles, IsPast}
 use Rattle.qm_search.specs.Windows.{IsProperWindow}
 use Rattle.qm_search.proofs.HarderGoals.{no_harder_above, reaches_above, refutes_harder}
-use Rattle.qm_search.proofs.SingleParts.{push_singles, singles_cover}
+use Rattle.qm_search.proofs.SingleParts.{append_singles, push_singles, singles_below, singles_cover}
 
 module _ (P : Problem) (cuts : List Row) (heads : List Head) (later : List Var) (depth : ℕ) (bx : List Range) (W : Window) (scale : pos 1 ≤ℤ P.scale) (proper : IsProperWindow W) where
   -- the goal is refuted below the part
@@ -100,6 +100,52 @@ module _ (P : Problem) (cuts : List Row) (heads : List Head) (later : List Var) 
             secures = within.reached.secures;
             reaches = reaches_first low next choices.best value are.best within.reached.positive within.reaches;
             uncapped = within.uncapped;
+          };
+        }
+
+  -- choices, and those behind them that were tried before
+  module _ (low middle next : ℤ) (lower upper : Choices) (behind : AreChoices P cuts heads later depth bx W middle next upper)
+      (are : AreChoices P cuts heads later depth bx (choice_window W upper.best) low middle lower) where
+    first : low ≤ℤ middle
+    first = singles_below low middle (map range_of lower.parts) are.singles
+
+    then : middle ≤ℤ next
+    then = singles_below middle next (map range_of upper.parts) behind.singles
+
+    all_singles : AreSingles low next (map range_of (lower.parts ++ upper.parts))
+    all_singles = append_singles range_of low middle next lower.parts upper.parts are.singles behind.singles
+
+    best_behind : (best : Option Best) → IsBest P later depth bx W middle next best → IsBest P later depth bx W low next best
+    best_behind None is = tt
+    best_behind (Some best) is =
+        record { positive = is.positive; from = omega (arith, ints, is.from, first); before = is.before; secures = is.secures; reaches = is.reaches; uncapped = is.uncapped }
+
+    pub none_better : lower.best ≡ None → AreChoices P cuts heads later depth bx W low next (record { best = upper.best; parts = lower.parts ++ upper.parts })
+    none_better e = record {
+      singles = all_singles;
+      below = All-append (IsRefuted (beyond upper.best)) lower.parts upper.parts
+          (subst (λ best. All (IsRefuted (goal_of (floor_beyond (floor_beyond W.floor upper.best) best))) lower.parts) e are.below) behind.below;
+      best = best_behind upper.best behind.best;
+    }
+
+    pub one_better : (best : Best) → lower.best ≡ Some best → AreChoices P cuts heads later depth bx W low next (record { best = Some best; parts = lower.parts ++ upper.parts })
+    one_better best e =
+        let tried : IsTried P later depth bx (choice_window W upper.best) low middle best = subst (IsBest P later depth bx (choice_window W upper.best) low middle) e are.best in
+        let order = no_harder_above (floor_beyond W.floor upper.best) best.value tried.reaches in
+        let upper_below : All (IsRefuted (Above best.value)) upper.parts =
+        (λ k d h. refutes_harder P cuts heads later (depth + 1) (slice_set bx depth (range_of (get_or upper.parts k d))) (beyond upper.best) (Above best.value) (below_of (get_or upper.parts k d)) scale
+        (beyond_proper middle next upper.best behind.best) tried.positive order (behind.below k d h)) in
+        record {
+          singles = all_singles;
+          below = All-append (IsRefuted (Above best.value)) lower.parts upper.parts
+              (subst (λ best. All (IsRefuted (goal_of (floor_beyond (floor_beyond W.floor upper.best) best))) lower.parts) e are.below) upper_below;
+          best = record {
+            positive = tried.positive;
+            from = tried.from;
+            before = omega (arith, ints, tried.before, then);
+            secures = tried.secures;
+            reaches = reaches_first middle next upper.best best.value behind.best tried.positive tried.reaches;
+            uncapped = tried.uncapped;
           };
         }
 

@@ -35,7 +35,7 @@ pub reaches_above : (F : Floor) (value more : Fraction) → HasPositiveDen value
 reaches_above F value more positive positive' proper reaches above =
     reaches_easier more (goal_of F) (Above value) positive' proper positive (no_harder_above F value reaches) above
 
-not_below : (a b : ℤ) → (a <ℤ b → ⊥) → b ≤ℤ a
+pub not_below : (a b : ℤ) → (a <ℤ b → ⊥) → b ≤ℤ a
 not_below a b not = grind (arith, ints)
 
 pub unreached : (value : Fraction) (F : Floor) → (Reaches value (goal_of F) → ⊥) → IsNoHarder (Above value) (goal_of F)

@@ -1,12 +1,12 @@
 -- How the search's journal goes on, and which values stay untried.
-use Rattle.std.proofs.Common.{◌≡◌, ◌≢◌, ◌∙◌, ◌⊎◌, inl, inr, sym, refl, ap, subst, ℕ, suc, ◌<◌, ◌≤◌, arith, List, [], ◌∷◌, ◌++◌, length, length-append, append_assoc, append-nil, All, Some, ℤ, pos, ◌+ℤ◌}
+use Rattle.std.proofs.Common.{◌≡◌, ◌≢◌, ◌∙◌, ◌⊎◌, inl, inr, sym, refl, ap, subst, ℕ, suc, ◌<◌, ◌≤◌, arith, List, [], ◌∷◌, ◌++◌, length, length-append, append_assoc, append-nil, All, Some, ℤ, pos, ◌+ℤ◌, ◌≤ℤ◌, ◌<ℤ◌}
 use Rattle.std.proofs.lemmas.Int.{ints}
 use Rattle.std.proofs.lemmas.List.Elements.{All-append, All-cons, All-nil, All-weaker}
 use Rattle.qm_journal.specs.declared.entry.JEntry.{JEntry}
 use Rattle.qm_journal.specs.declared.entry.JKind.TheVariants.{Step}
 use Rattle.qm_journal.specs.Questions.{MayAdd, WentOn, query_entry}
 use Rattle.qm_journal.proofs.Answering.{IsNoGame, added-no_game}
-use Rattle.qm_search.specs.VisitSteps.{AreAt, AreUntriedFrom, IsUntried, WentAsked, WentAt, WentBelow, game_entry}
+use Rattle.qm_search.specs.VisitSteps.{AreAt, IsUntried, WentAmong, WentAsked, WentAt, WentBelow, game_entry}
 
 -- one of the entries below an entry
 abbrev IsBelow : ℕ → ℕ → JEntry → Type 0
@@ -66,6 +66,53 @@ at_below entry v A B g = record {
   below = All-weaker (IsAt entry v (length A)) (IsBelow entry (length A)) (of_any_value entry v (length A)) g.added g.at;
 }
 
+-- ---- among several values
+
+-- one of the entries below an entry, where values from `low` up to before `next` are appended to it
+abbrev IsAmong : ℕ → ℤ → ℤ → ℕ → JEntry → Type 0
+IsAmong entry low next last e = ((e.parent ≡ entry) × (low ≤ℤ e.value) × (e.value <ℤ next)) ⊎ (last < e.parent)
+
+pub among_nowhere : (entry : ℕ) (low next : ℤ) (J : List JEntry) → WentAmong entry low next J J
+among_nowhere entry low next J = record { added = []; behind = sym (append-nil J); among = All-nil (IsAmong entry low next (length J)) }
+
+among_wider : (entry : ℕ) (low next more : ℤ) (last : ℕ) → ((v : ℤ) → low ≤ℤ v → v <ℤ next → v <ℤ more) → (e : JEntry) → IsAmong entry low next last e → IsAmong entry low more last e
+among_wider entry low next more last wider e (inl is) = inl (is.0, is.1, wider e.value is.1 is.2)
+among_wider entry low next more last wider e (inr behind) = inr behind
+
+pub went_wider : (entry : ℕ) (low next more : ℤ) (A B : List JEntry) → ((v : ℤ) → low ≤ℤ v → v <ℤ next → v <ℤ more) → WentAmong entry low next A B → WentAmong entry low more A B
+went_wider entry low next more A B wider g = record {
+  added = g.added;
+  behind = g.behind;
+  among = All-weaker (IsAmong entry low next (length A)) (IsAmong entry low more (length A)) (among_wider entry low next more (length A) wider) g.added g.among;
+}
+
+of_this_value : (entry : ℕ) (low v : ℤ) (last later : ℕ) → low ≤ℤ v → last ≤ later → (e : JEntry) → IsAt entry v later e → IsAmong entry low (v +ℤ pos 1) last e
+of_this_value entry low v last later from le e (inl is) = inl (is.0, omega (arith, ints, from, is.1), omega (arith, ints, is.1))
+of_this_value entry low v last later from le e (inr behind) = inr (omega (arith, le, behind))
+
+-- one value more
+pub among_then : (entry : ℕ) (low v : ℤ) (A B C : List JEntry) → low ≤ℤ v → WentAmong entry low v A B → WentAt entry v B C → WentAmong entry low (v +ℤ pos 1) A C
+among_then entry low v A B C from g h =
+    let wide =
+    All-weaker (IsAmong entry low v (length A)) (IsAmong entry low (v +ℤ pos 1) (length A)) (among_wider entry low v (v +ℤ pos 1) (length A) (λ w above below. omega (arith, ints, below))) g.added g.among in
+    record {
+      added = g.added ++ h.added;
+      behind = both_added A B C g.added h.added g.behind h.behind;
+      among = All-append (IsAmong entry low (v +ℤ pos 1) (length A)) g.added h.added wide
+          (All-weaker (IsAt entry v (length B)) (IsAmong entry low (v +ℤ pos 1) (length A)) (of_this_value entry low v (length A) (length B) from (longer A B g.added g.behind)) h.added h.at);
+    }
+
+of_these_values : (entry : ℕ) (low next : ℤ) (last : ℕ) (e : JEntry) → IsAmong entry low next last e → IsBelow entry last e
+of_these_values entry low next last e (inl is) = inl is.0
+of_these_values entry low next last e (inr behind) = inr behind
+
+pub among_below : (entry : ℕ) (low next : ℤ) (A B : List JEntry) → WentAmong entry low next A B → WentBelow entry A B
+among_below entry low next A B g = record {
+  added = g.added;
+  behind = g.behind;
+  below = All-weaker (IsAmong entry low next (length A)) (IsBelow entry (length A)) (of_these_values entry low next (length A)) g.added g.among;
+}
+
 -- ---- by an entry, and by a question
 
 -- what is below an entry that has just been made comes after those that stood
@@ -114,25 +161,23 @@ asked_at entry v J K went =
 
 -- ---- what stays untried
 
--- no entry at another value, nor behind a later one, is this one
-other_entry : (entry : ℕ) (v : ℤ) (last : ℕ) (d : JEntry) → d.parent ≡ entry → (d.value ≡ v → ⊥) → entry ≤ last → (e : JEntry) → IsAt entry v last e → e ≢ d
-other_entry entry v last d parent other within e (inl is) same = other (sym (ap (λ (c : JEntry). c.value) same) ∙ is.1)
-other_entry entry v last d parent other within e (inr behind) same =
+-- no entry at one of several values, nor behind a later one, is this one at another
+other_entry : (entry : ℕ) (low next : ℤ) (last : ℕ) (d : JEntry) → d.parent ≡ entry → (low ≤ℤ d.value → d.value <ℤ next → ⊥) → entry ≤ last → (e : JEntry) → IsAmong entry low next last e → e ≢ d
+other_entry entry low next last d parent other within e (inl is) same =
+    let value = ap (λ (c : JEntry). c.value) same in
+    other (omega (arith, ints, value, is.1)) (omega (arith, ints, value, is.2))
+other_entry entry low next last d parent other within e (inr behind) same =
     absurd (let parents : e.parent ≡ d.parent = ap (λ (c : JEntry). c.parent) same in omega (arith, parents, parent, within, behind))
 
 -- so an entry of another value isn't made
-not_made : (entry : ℕ) (v : ℤ) (J K : List JEntry) (d : JEntry) → d.parent ≡ entry → (d.value ≡ v → ⊥) → entry ≤ length J → WentAt entry v J K → All (λ e. e ≢ d) J → All (λ e. e ≢ d) K
-not_made entry v J K d parent other within went before =
+not_made : (entry : ℕ) (low next : ℤ) (J K : List JEntry) (d : JEntry) → d.parent ≡ entry → (low ≤ℤ d.value → d.value <ℤ next → ⊥) → entry ≤ length J → WentAmong entry low next J K → All (λ e. e ≢ d) J
+    → All (λ e. e ≢ d) K
+not_made entry low next J K d parent other within went before =
     subst (All (λ e. e ≢ d)) (sym went.behind)
-    (All-append (λ e. e ≢ d) J went.added before (All-weaker (IsAt entry v (length J)) (λ e. e ≢ d) (other_entry entry v (length J) d parent other within) went.added went.at))
+    (All-append (λ e. e ≢ d) J went.added before (All-weaker (IsAmong entry low next (length J)) (λ e. e ≢ d) (other_entry entry low next (length J) d parent other within) went.added went.among))
 
-pub others_untried : (entry : ℕ) (v w : ℤ) (J K : List JEntry) → IsUntried J entry w → (w ≡ v → ⊥) → entry ≤ length J → WentAt entry v J K → IsUntried K entry w
-others_untried entry v w J K before other within went = record {
-  game = not_made entry v J K (game_entry entry w) refl other within went before.game;
-  query = not_made entry v J K (query_entry entry w) refl other within went before.query;
+pub others_untried : (entry : ℕ) (low next w : ℤ) (J K : List JEntry) → IsUntried J entry w → (low ≤ℤ w → w <ℤ next → ⊥) → entry ≤ length J → WentAmong entry low next J K → IsUntried K entry w
+others_untried entry low next w J K before other within went = record {
+  game = not_made entry low next J K (game_entry entry w) refl other within went before.game;
+  query = not_made entry low next J K (query_entry entry w) refl other within went before.query;
 }
-
--- the values after the one that was tried
-pub untried_after : (entry : ℕ) (v : ℤ) (J K : List JEntry) → AreUntriedFrom J entry v → entry ≤ length J → WentAt entry v J K → AreUntriedFrom K entry (v +ℤ pos 1)
-untried_after entry v J K before within went =
-    λ w low. others_untried entry v w J K (before w (omega (arith, ints, low))) (λ same. absurd (omega (arith, ints, low, same))) within went

@@ -19,3 +19,4 @@ pub mod EnteredJournals
 pub mod SearchPrefixes
 pub mod Visits
 pub mod RootPlaces
+pub mod Runs

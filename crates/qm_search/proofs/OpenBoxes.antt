@@ -1,5 +1,6 @@
 -- When the prefix of a box may be entered, and which prefixes have been on the way to the next one.
-use Rattle.std.proofs.Common.{◌≡◌, ℕ, ◌+◌, ◌<◌, List, [], ◌∷◌, ◌++◌, length, map, take, drop, set, arith, sym, ap, subst, ◌∙◌, below_more, ℤ}
+use Rattle.std.proofs.Common.{◌≡◌, ℕ, ◌+◌, ◌<◌, List, [], ◌∷◌, ◌++◌, length, map, take, drop, set, arith, sym, ap, subst, ◌∙◌, below_more, ℤ, Option, Some, None, inl}
+use Rattle.std.specs.Prelude.{IsSomeAnd}
 use Rattle.std.proofs.lemmas.List.{length-drop, map-append, take-set-le, take_more_set}
 use Rattle.qm_model.specs.declared.range.Range.{Range}
 use Rattle.qm_model.specs.declared.variable.Var.{Var}
@@ -9,8 +10,10 @@ use Rattle.qm_model.specs.Plays.{whole_vars}
 use Rattle.qm_model.specs.Ranges.{single}
 use Rattle.qm_journal.specs.Lawful.{AreAlive}
 use Rattle.qm_legal.specs.Queries.{low_of}
+use Rattle.qm_relax.specs.declared.answers.BestPoint.{BestPoint}
+use Rattle.qm_trees.specs.BoxPoints.{IsInBox}
 use Rattle.qm_search.specs.Entering.{IsEnterable, IsUnclosed}
-use Rattle.qm_search.specs.JudgeSteps.{MayBeVisited}
+use Rattle.qm_search.specs.JudgeSteps.{IsKnownPoint, MayBeVisited}
 use Rattle.qm_search.specs.PlaceSteps.{AreEntered, IsJudgePlace, IsSearchBox, IsSearchPlace, prefix_before}
 use Rattle.qm_search.proofs.BoxPrefixes.{box_is, journal_box_is, legal_at, prefix_long, prefix_within}
 
@@ -54,3 +57,8 @@ entered_set P depth bx v entered n some less =
 pub entered_more : (P : Problem) (depth : ℕ) (bx : List Range) → AreEntered P depth bx → IsEnterable P (prefix_before depth bx) → AreEntered P (depth + 1) bx
 entered_more P depth bx entered here n some less =
     below_more (λ (k : ℕ). 0 < k → IsEnterable P (prefix_before k bx)) depth (λ k below positive. entered k positive below) (λ positive. here) n less some
+
+-- a point that is known and lies in the box shows that its relaxation has one
+pub known_open : (P : Problem) (bx : List Range) (known : Option BestPoint) → IsKnownPoint P known → IsSomeAnd known (λ best. IsInBox bx best.point) → IsUnclosed P bx
+known_open P bx None is inside = absurd inside
+known_open P bx (Some best) is inside = inl (best.point, record { inside = inside; rows = is.1.rows; urows = is.1.urows; extra = is.1.extra })

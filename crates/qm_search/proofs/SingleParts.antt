@@ -17,13 +17,19 @@ pub push_singles : {A : Type 0} (range_of : A → Range) (low next : ℤ) (parts
 push_singles range_of low next parts part e h =
     subst (AreSingles low (next +ℤ pos 1)) (sym (map-append range_of parts (part ∷ []) ∙ ap (λ r. map range_of parts ++ r ∷ []) e)) (singles_push low next (map range_of parts) h)
 
+-- parts that go on behind others
+pub append_singles : {A : Type 0} (range_of : A → Range) (low middle next : ℤ) (parts others : List A) → AreSingles low middle (map range_of parts) → AreSingles middle next (map range_of others)
+    → AreSingles low next (map range_of (parts ++ others))
+append_singles range_of low middle next [] others e h = subst (λ n. AreSingles n next (map range_of others)) (sym e) h
+append_singles range_of low middle next (part ∷ parts) others g h = (g.0, append_singles range_of (low +ℤ pos 1) middle next parts others g.1 h)
+
 singles_follow : (low high : ℤ) (rs : List Range) → AreSingles low (high +ℤ pos 1) rs → FollowOn low high rs
 singles_follow low high [] e = e
 singles_follow low high (r ∷ rs) h =
     let rest : FollowOn (low +ℤ pos 1) high rs = singles_follow (low +ℤ pos 1) high rs h.1 in
     subst (λ (s : Range). (s.low ≡ low) × (low ≤ℤ s.high) × FollowOn (s.high +ℤ pos 1) high rs) (sym h.0) (refl, omega (arith, ints), rest)
 
-singles_below : (low next : ℤ) (rs : List Range) → AreSingles low next rs → low ≤ℤ next
+pub singles_below : (low next : ℤ) (rs : List Range) → AreSingles low next rs → low ≤ℤ next
 singles_below low next [] e = omega (arith, ints, e)
 singles_below low next (r ∷ rs) h = omega (arith, ints, singles_below (low +ℤ pos 1) next rs h.1)
 

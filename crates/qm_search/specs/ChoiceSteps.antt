@@ -1,5 +1,5 @@
 -- Steps of the search: the choices of an existential variable, as far as they have been tried.
-use Rattle.std.specs.Prelude.{ℕ, ◌+◌, ℤ, ◌≤ℤ◌, ◌<ℤ◌, List, All, map, slice_set, Option, Some, None}
+use Rattle.std.specs.Prelude.{ℕ, ◌+◌, ℤ, ◌≤ℤ◌, ◌<ℤ◌, List, All, drop, map, slice_set, Option, Some, None}
 use Rattle.qm_math.specs.Fraction.{HasPositiveDen}
 use Rattle.qm_game.specs.declared.goal.Goal.{Goal}
 use Rattle.qm_game.specs.declared.goal.Goal.TheVariants.{Above}
@@ -16,8 +16,8 @@ use Rattle.qm_search.specs.declared.choices.Choices.{Choices}
 use Rattle.qm_search.specs.declared.choices.Tried.{Tried}
 use Rattle.qm_search.specs.declared.choices.Tried.TheVariants.{Enough, More}
 use Rattle.qm_search.specs.declared.window.Window.{Window}
-use Rattle.qm_search.specs.OutcomeSteps.{IsOutcome, Refutes, Secures}
-use Rattle.qm_search.specs.PartSteps.{AreSingles}
+use Rattle.qm_search.specs.OutcomeSteps.{IsAbove, Refutes, Secures}
+use Rattle.qm_search.specs.PartSteps.{AreSingles, IsPast}
 use Rattle.qm_search.specs.Windows.{IsUncapped}
 
 -- the floor that no choice so far reaches: that of the window, until a choice has reached it
@@ -52,5 +52,16 @@ pub record AreChoices (P : Problem) (cuts : List Row) (heads : List Head) (later
 
 -- a choice is enough, or there is one choice more
 abbrev pub IsTrial : Problem → List Row → List Head → List Var → List Var → ℕ → List Range → Window → ℤ → ℤ → Tried → Type 0
-IsTrial P cuts heads rest later depth bx W low next (Enough outcome) = IsOutcome P cuts heads rest depth bx W outcome
+IsTrial P cuts heads rest later depth bx W low next (Enough value policy) = IsAbove P rest depth bx W value policy
 IsTrial P cuts heads rest later depth bx W low next (More choices) = AreChoices P cuts heads later depth bx W low next choices
+
+-- all values of the range of the next variable have been tried, where `rest` are still to be set from it on
+pub record AreAllTried (P : Problem) (cuts : List Row) (heads : List Head) (rest : List Var) (depth : ℕ) (bx : List Range) (W : Window) (values : Range) (tried : Choices) : Type 0 where
+  pub next : ℤ
+  pub past : IsPast values next
+  pub choices : AreChoices P cuts heads (drop 1 rest) depth bx W values.low next tried
+
+-- a choice is enough, or all values of the range have been tried
+abbrev pub AreTried : Problem → List Row → List Head → List Var → ℕ → List Range → Window → Range → Tried → Type 0
+AreTried P cuts heads rest depth bx W values (Enough value policy) = IsAbove P rest depth bx W value policy
+AreTried P cuts heads rest depth bx W values (More choices) = AreAllTried P cuts heads rest depth bx W values choices

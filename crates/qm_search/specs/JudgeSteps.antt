@@ -1,5 +1,5 @@
 -- Steps of the search: what is told of a box before it is looked into.
-use Rattle.std.specs.Prelude.{ℕ, ◌<◌, List, [], length, Any, Option, Some, None}
+use Rattle.std.specs.Prelude.{ℕ, ◌<◌, List, [], length, Any, Option, Some, None, IfSome}
 use Rattle.qm_game.specs.Dead.{IsFirstDead}
 use Rattle.qm_game.specs.Goals.{goal_of}
 use Rattle.qm_model.specs.declared.range.Range.{Range}
@@ -9,6 +9,7 @@ use Rattle.qm_model.specs.Boxes.{IsEmptyRange}
 use Rattle.qm_model.specs.Goals.{Goal, IsProper, Reaches}
 use Rattle.qm_relax.specs.Answers.{IsBestPoint}
 use Rattle.qm_relax.specs.declared.answers.BestPoint.{BestPoint}
+use Rattle.qm_simplex.specs.Relaxation.{IsInRelaxation}
 use Rattle.qm_trees.specs.declared.refutation.Refute.{Refute}
 use Rattle.qm_search.specs.declared.judge.Judged.{Judged}
 use Rattle.qm_search.specs.declared.judge.Judged.TheVariants.{Known, Open}
@@ -41,3 +42,7 @@ pub record MayBeVisited (P : Problem) (rest : List Var) (bx : List Range) : Type
 abbrev pub IsJudged : Problem → List Var → ℕ → List Range → Window → Judged → Type 0
 IsJudged P rest depth bx W (Known outcome) = IsOutcome P [] [] rest depth bx W outcome
 IsJudged P rest depth bx W (Open bound) = MayBeVisited P rest bx × IsBound P bx (goal_of W.floor) bound
+
+-- where a point is known, it lies in the relaxation of some box
+abbrev pub IsKnownPoint : Problem → Option BestPoint → Type 0
+IsKnownPoint P known = IfSome known (λ best. (bx : List Range) × IsInRelaxation P [] bx best.point)

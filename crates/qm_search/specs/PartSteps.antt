@@ -12,3 +12,8 @@ AreSingles low next (r ∷ rs) = (r ≡ single low) × AreSingles (low +ℤ pos 
 pub record IsPast (r : Range) (next : ℤ) : Type 0 where
   pub above : r.high <ℤ next
   pub near : r.low <ℤ next → next ≤ℤ (r.high +ℤ pos 1)
+
+-- a value of the range, or its low end where there is none above that
+pub record IsStart (r : Range) (start : ℤ) : Type 0 where
+  pub from : r.low ≤ℤ start
+  pub within : r.low <ℤ start → start ≤ℤ r.high

@@ -1,5 +1,5 @@
 -- Steps of the search: how its journal and its box go on.
-use Rattle.std.specs.Prelude.{◌≡◌, ◌≢◌, ◌⊎◌, ℕ, ◌+◌, ◌<◌, ℤ, ◌≤ℤ◌, List, [], ◌∷◌, ◌++◌, All, length, slice_set}
+use Rattle.std.specs.Prelude.{◌≡◌, ◌≢◌, ◌⊎◌, ℕ, ◌+◌, ◌<◌, ℤ, ◌≤ℤ◌, ◌<ℤ◌, List, [], ◌∷◌, ◌++◌, All, length, slice_set}
 use Rattle.qm_math.specs.Ranges.{IsBetween}
 use Rattle.qm_model.specs.declared.range.Range.{Range}
 use Rattle.qm_model.specs.declared.game.Problem.{Problem}
@@ -32,10 +32,6 @@ pub record IsUntried (J : List JEntry) (entry : ℕ) (v : ℤ) : Type 0 where
   pub game : IsNotEntered J entry v
   pub query : All (λ e. e ≢ query_entry entry v) J
 
--- these values of the next variable haven't been tried
-abbrev pub AreUntriedFrom : List JEntry → ℕ → ℤ → Type 0
-AreUntriedFrom J entry low = (v : ℤ) → low ≤ℤ v → IsUntried J entry v
-
 -- Entries go on below an entry, where they stand behind the number `last`: the parent of each is that entry or one of
 -- them, since no parent comes later than its entry.
 abbrev pub AreBelow : ℕ → ℕ → List JEntry → Type 0
@@ -44,6 +40,10 @@ AreBelow entry last added = All (λ e. (e.parent ≡ entry) ⊎ (last < e.parent
 -- the same, where only this value is appended to the entry
 abbrev pub AreAt : ℕ → ℤ → ℕ → List JEntry → Type 0
 AreAt entry v last added = All (λ e. ((e.parent ≡ entry) × (e.value ≡ v)) ⊎ (last < e.parent)) added
+
+-- the same, where only values from `low` up to before `next` are
+abbrev pub AreAmong : ℕ → ℤ → ℤ → ℕ → List JEntry → Type 0
+AreAmong entry low next last added = All (λ e. ((e.parent ≡ entry) × (low ≤ℤ e.value) × (e.value <ℤ next)) ⊎ (last < e.parent)) added
 
 -- the journal went on below the entry
 pub record WentBelow (entry : ℕ) (old new : List JEntry) : Type 0 where
@@ -56,6 +56,12 @@ pub record WentAt (entry : ℕ) (v : ℤ) (old new : List JEntry) : Type 0 where
   pub added : List JEntry
   pub behind : new ≡ old ++ added
   pub at : AreAt entry v (length old) added
+
+-- the same, where only values from `low` up to before `next` are
+pub record WentAmong (entry : ℕ) (low next : ℤ) (old new : List JEntry) : Type 0 where
+  pub added : List JEntry
+  pub behind : new ≡ old ++ added
+  pub among : AreAmong entry low next (length old) added
 
 -- the journal went on by a question about this value behind the entry: no game entry of it is there yet
 pub record WentAsked (entry : ℕ) (v : ℤ) (old new : List JEntry) : Type 0 where
@@ -78,6 +84,15 @@ pub record IsVisitPlace (P : Problem) (depth : ℕ) (search : Search) (entry : �
   pub lawful : IsLawfulWith P (MayHold P) search.journal.entries
   pub stands : StandsFor search.journal.entries entry (prefix_before depth search.bx)
   pub untried : (v : ℤ) → IsUntried search.journal.entries entry v
+
+-- such a prefix, and values behind it that haven't been tried
+pub record IsRunPlace (P : Problem) (depth : ℕ) (search : Search) (entry : ℕ) (completion : List ℤ) (values : Range) : Type 0 where
+  pub place : IsSearchPlace P depth search.bx completion
+  pub entered : AreEntered P (depth + 1) search.bx
+  pub lawful : IsLawfulWith P (MayHold P) search.journal.entries
+  pub stands : StandsFor search.journal.entries entry (prefix_before depth search.bx)
+  pub within : (v : ℤ) → IsBetween values.low values.high v → IsBetween (range_at search.bx depth).low (range_at search.bx depth).high v
+  pub untried : (v : ℤ) → IsBetween values.low values.high v → IsUntried search.journal.entries entry v
 
 -- such a prefix, and a value behind it that hasn't been entered
 pub record IsValuePlace (P : Problem) (depth : ℕ) (search : Search) (entry : ℕ) (v : ℤ) : Type 0 where

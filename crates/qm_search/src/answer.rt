@@ -24,8 +24,8 @@ use std::alloc::Global;
 /// What a value of a universal variable comes to.
 #[derive(Debug, Drop)]
 pub enum Answer {
-    /// The floor can't be reached against it: a refutation, which picks it.
-    Lost(Refute),
+    /// The outcome of the whole visit: where the floor can't be reached against it, a refutation, which picks it.
+    Ended(Outcome),
     /// It has its part in the policy.
     Kept(Reply),
 }
@@ -66,7 +66,9 @@ pub fn legal_answer(
     ensures { (P : Problem) (cuts : List Row) (heads : List Head) (rest : List Var) (depth : ℕ) (bx : List Range) (W : Window) (first : ℤ) → IsProperWindow W → SetsNext Universal rest → IsRightPick P (drop 1 rest) depth bx at completion → IsOutcome P cuts heads (drop 1 rest) (depth + 1) (slice_set bx depth (single at)) W outcome → IfOk result (IsRightAnswer P cuts heads rest depth bx W first at) }
 {
     match outcome {
-        Outcome::Under(refute) => Ok(Answer::Lost(pick(alloc, at, completion, refute)?)),
+        Outcome::Under(refute) => Ok(Answer::Ended(Outcome::Under(pick(
+            alloc, at, completion, refute,
+        )?))),
         Outcome::At {
             value,
             policy,

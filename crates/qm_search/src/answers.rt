@@ -11,7 +11,7 @@ ghost use Rattle.qm_trees.specs.RefuteJudgement.{Head};
 ghost use Rattle.qm_legal.specs.SearchSteps.{SetsNext};
 ghost use Rattle.qm_search.specs.declared.answer.Reply.TheVariants.{Illegal, Reached, Secured};
 ghost use Rattle.qm_search.specs.declared.window.Window.{Window};
-ghost use Rattle.qm_search.specs.AnswerSteps.{AreAnswers, IsOver, IsReply, answer_window, cap_below};
+ghost use Rattle.qm_search.specs.AnswerSteps.{at_worst, AreAnswers, IsOver, IsReply, answer_window, cap_below};
 ghost use Rattle.qm_search.specs.OutcomeSteps.{IsOutcome};
 ghost use Rattle.qm_search.specs.PartSteps.{IsPast};
 ghost use Rattle.qm_search.specs.Windows.{IsProperWindow};
@@ -21,7 +21,7 @@ use crate::outcome::Outcome;
 use crate::window::Window;
 use qm_frac::Frac;
 use qm_io::Memory;
-use qm_model::single;
+use qm_model::{Range, single};
 use qm_trees::{Below, Empty, Policy, PolicyPart, Refute};
 use sqlite_items::Items;
 use std::alloc::Global;
@@ -41,10 +41,19 @@ pub struct Answers {
     parts: Items<PolicyPart>,
 }
 
+/// What several values come to.
+#[derive(Debug, Drop)]
+pub enum Answered {
+    /// What the visit comes to: the others need no answer.
+    Enough(Outcome),
+    /// The answers to them.
+    More(Answers),
+}
+
 impl Answers {
     /// No value yet.
     pub fn new(alloc: Global) -> Answers
-        ensures { (P : Problem) (cuts : List Row) (heads : List Head) (rest : List Var) (depth : ℕ) (bx : List Range) (W : Window) (first low : ℤ) → low ≤ℤ first → AreAnswers P cuts heads rest depth bx W first low low result }
+        ensures { (P : Problem) (cuts : List Row) (heads : List Head) (rest : List Var) (depth : ℕ) (bx : List Range) (W : Window) (first low : ℤ) → AreAnswers P cuts heads rest depth bx W first low low result }
     {
         Answers {
             worst: None,
@@ -120,6 +129,49 @@ impl Answers {
         }
     }
 
+    /// These values and those behind them, whose window they were answered in.
+    pub fn before(self, later: Answers) -> Result<Answers, Memory>
+        ensures { (P : Problem) (cuts : List Row) (heads : List Head) (rest : List Var) (depth : ℕ) (bx : List Range) (W : Window) (first low middle next : ℤ) → IsProperWindow W → AreAnswers P cuts heads rest depth bx W first middle next later → AreAnswers P cuts heads rest depth bx (answer_window W later.worst) first low middle self → IfOk result (AreAnswers P cuts heads rest depth bx W first low next) }
+    {
+        let Answers { worst, mut parts } = self;
+        let Answers {
+            worst: former,
+            parts: others,
+        } = later;
+        parts.append(others).map_err(|_| Memory)?;
+        match worst {
+            Some(worst) => Ok(Answers {
+                worst: Some(worst),
+                parts,
+            }),
+            None => Ok(Answers {
+                worst: former,
+                parts,
+            }),
+        }
+    }
+
+    /// An outcome in the window behind these values, as one in the window that they had: what is at that cap or above it is
+    /// at the worst value so far.
+    pub fn widened(self, outcome: Outcome) -> Outcome
+        ensures { (P : Problem) (cuts : List Row) (heads : List Head) (rest : List Var) (depth : ℕ) (bx : List Range) (W : Window) (first low next : ℤ) → IsProperWindow W → AreAnswers P cuts heads rest depth bx W first low next self → IsOutcome P cuts heads rest depth bx (answer_window W self.worst) outcome → IsOutcome P cuts heads rest depth bx W result }
+    {
+        let Answers { worst, parts: _ } = self;
+        match outcome {
+            Outcome::Under(refute) => Outcome::Under(refute),
+            Outcome::At {
+                value,
+                policy,
+                refute,
+            } => Outcome::At {
+                value,
+                policy,
+                refute,
+            },
+            Outcome::Over { value, policy } => at_worst(worst, value, policy),
+        }
+    }
+
     /// What all the values come to.
     pub fn outcome(self, cap: Option<Frac>) -> Outcome
         requires { IsSome (cap_below cap self.worst) }
@@ -141,6 +193,23 @@ impl Answers {
     }
 }
 
+/// The policy secures the worst value so far, or this one where there is none.
+fn at_worst(worst: Option<Worst>, value: Frac, policy: Policy) -> Outcome
+    ensures { result ≡ at_worst worst value policy }
+{
+    match worst {
+        None => Outcome::Over { value, policy },
+        Some(worst) => {
+            let Worst { value, refute } = worst;
+            Outcome::At {
+                value,
+                policy,
+                refute,
+            }
+        }
+    }
+}
+
 /// The policy secures the cap.
 fn over(cap: Option<Frac>, policy: Policy) -> Outcome
     requires { IsSome cap }
@@ -156,15 +225,23 @@ fn over(cap: Option<Frac>, policy: Policy) -> Outcome
     }
 }
 
+/// The part of this range, with a policy.
+pub fn part_of(range: Range, below: Policy) -> PolicyPart
+    ensures range { range_of result ≡ range }
+    ensures below { below_of result ≡ node.On below }
+{
+    PolicyPart {
+        range,
+        below: Below::On(below),
+    }
+}
+
 /// The part of this value alone, with a policy.
 fn part(value: i64, below: Policy) -> PolicyPart
     ensures range { range_of result ≡ single value }
     ensures below { below_of result ≡ node.On below }
 {
-    PolicyPart {
-        range: single(value),
-        below: Below::On(below),
-    }
+    part_of(single(value), below)
 }
 
 /// The part of this value alone, which no universal play has.

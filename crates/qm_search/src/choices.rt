@@ -46,7 +46,7 @@ pub struct Choices {
 #[derive(Debug, Drop)]
 pub enum Tried {
     /// The value that it secures isn't below the cap: the others need no try.
-    Enough(Outcome),
+    Enough { value: Frac, policy: Policy },
     /// The choices with this one.
     More(Choices),
 }
@@ -128,10 +128,32 @@ impl Choices {
                 policy,
                 refute,
             } => Ok(Tried::More(self.reached(value, choice, policy, refute)?)),
-            Outcome::Over { value, policy } => Ok(Tried::Enough(Outcome::Over {
+            Outcome::Over { value, policy } => Ok(Tried::Enough {
                 value,
                 policy: choose(alloc, choice, policy)?,
-            })),
+            }),
+        }
+    }
+
+    /// These choices and those behind them, whose window they were tried in.
+    pub fn before(self, later: Choices) -> Result<Choices, Memory>
+        ensures { (P : Problem) (cuts : List Row) (heads : List Head) (rest : List Var) (depth : ℕ) (bx : List Range) (W : Window) (low middle next : ℤ) → pos 1 ≤ℤ P.scale → IsProperWindow W → AreChoices P cuts heads rest depth bx W middle next later → AreChoices P cuts heads rest depth bx (choice_window W later.best) low middle self → IfOk result (AreChoices P cuts heads rest depth bx W low next) }
+    {
+        let Choices { best, mut parts } = self;
+        let Choices {
+            best: former,
+            parts: others,
+        } = later;
+        parts.append(others).map_err(|_| Memory)?;
+        match best {
+            Some(best) => Ok(Choices {
+                best: Some(best),
+                parts,
+            }),
+            None => Ok(Choices {
+                best: former,
+                parts,
+            }),
         }
     }
 

@@ -62,10 +62,10 @@ fn root_outcome(
     // that the journal has no more entries than its limit, here and below
     let _entries = search.journal.entries();
     let here = Place::at(game, 0);
-    match judge(alloc, here, &search.bx, &all_values())? {
+    match judge(alloc, here, &search.bx, &None, &all_values())? {
         Judged::Known(outcome) => Ok(outcome),
-        Judged::Open(_) => {
-            let outcome = visit(alloc, here, search, 0, play, &all_values());
+        Judged::Open(best) => {
+            let outcome = visit(alloc, here, search, 0, play, &best, &all_values());
             let _entries = search.journal.entries();
             outcome
         }

@@ -4,7 +4,13 @@ use Rattle.qm_relax.specs.Answers.{IsRight, without_point}
 use Rattle.qm_relax.specs.declared.answers.RelaxedPoint.{RelaxedPoint}
 use Rattle.qm_trees.specs.declared.refutation.Refute.{Close}
 use Rattle.qm_search.proofs.DeadRows.{refutes_by}
+use Rattle.qm_search.proofs.OpenBoxes.{known_open}
 use Rattle.qm_search.proofs.judge.judged_by_relaxation.Goals as goal
+
+pub returns-then-is_open_by : goal.returns-then-is_open_by
+returns-then-is_open_by c = λ cap.
+    let holds = c.is_open_by.ensures c.if-is_open_by.true in
+    (record { some = c.requires.some; clear = c.requires.clear; unclosed = known_open c.args.here.game.now c.args.bx.now c.args.known.now c.requires.known holds }, tt)
 
 pub returns-in-Closed : goal.returns-in-Closed
 returns-in-Closed c = λ cap.

@@ -1,43 +1,52 @@
 use Rattle.std.proofs.Common.{◌+◌, ◌*◌, [], drop, length, ◌+ℤ◌, ◌≤ℤ◌, ◌<ℤ◌, pos}
-use Rattle.qm_model.specs.Ranges.{range_at}
 use Rattle.qm_search.specs.AnswerSteps.{AreAnswers}
 use Rattle.qm_search.specs.ChoiceSteps.{AreChoices}
 use Rattle.qm_search.specs.PlaceSteps.{next_value}
-use Rattle.qm_search.specs.VisitSteps.{AreUntriedFrom, Moved, WentBelow}
+use Rattle.qm_search.specs.VisitSteps.{Moved, WentAmong}
 use Rattle.qm_search.proofs.walk.+search.Given as goal
 
 abbrev pub decreases-enter : goal.decreases-enter
-decreases-enter l = 5 * length l.here.rest.now + 4
+decreases-enter l = 7 * length l.here.rest.now + 6
 
 abbrev pub decreases-visit : goal.decreases-visit
-decreases-visit l = 5 * length l.here.rest.now + 3
+decreases-visit l = 7 * length l.here.rest.now + 5
 
 abbrev pub decreases-best_choice : goal.decreases-best_choice
-decreases-best_choice l = 5 * length l.here.rest.now + 2
+decreases-best_choice l = 7 * length l.here.rest.now + 4
 
 abbrev pub decreases-worst_answer : goal.decreases-worst_answer
-decreases-worst_answer l = 5 * length l.here.rest.now + 2
+decreases-worst_answer l = 7 * length l.here.rest.now + 4
+
+abbrev pub decreases-best_before : goal.decreases-best_before
+decreases-best_before l = 7 * length l.here.rest.now + 3
+
+abbrev pub decreases-worst_before : goal.decreases-worst_before
+decreases-worst_before l = 7 * length l.here.rest.now + 3
+
+abbrev pub decreases-choices_in : goal.decreases-choices_in
+decreases-choices_in l = 7 * length l.here.rest.now + 2
+
+abbrev pub decreases-answers_in : goal.decreases-answers_in
+decreases-answers_in l = 7 * length l.here.rest.now + 2
 
 abbrev pub decreases-answer_to : goal.decreases-answer_to
-decreases-answer_to l = 5 * length l.here.rest.now + 1
+decreases-answer_to l = 7 * length l.here.rest.now + 1
 
 abbrev pub decreases-child : goal.decreases-child
-decreases-child l = 5 * length l.here.rest.now
+decreases-child l = 7 * length l.here.rest.now
 
-abbrev pub invariant-best_choice-loop-choice : goal.invariant-best_choice-loop-choice
-invariant-best_choice-loop-choice l = record {
-  from : (range_at l.fn.search.bx l.here.depth).low ≤ℤ l.choice;
-  to : (range_at l.fn.search.bx l.here.depth).low <ℤ l.choice → l.choice ≤ℤ ((range_at l.fn.search.bx l.here.depth).high +ℤ pos 1);
-  moved : Moved l.here.game.now (WentBelow l.entry) l.fn.search l.search;
-  untried : AreUntriedFrom l.search.journal.entries l.entry l.choice;
-  choices : AreChoices l.here.game.now [] [] (drop 1 l.here.rest.now) l.here.depth l.fn.search.bx l.window (range_at l.fn.search.bx l.here.depth).low l.choice l.choices;
+abbrev pub invariant-choices_in-loop-choice : goal.invariant-choices_in-loop-choice
+invariant-choices_in-loop-choice l = record {
+  from : l.fn.values.low ≤ℤ l.choice;
+  to : l.fn.values.low <ℤ l.choice → l.choice ≤ℤ (l.fn.values.high +ℤ pos 1);
+  moved : Moved l.here.game.now (WentAmong l.entry l.fn.values.low l.choice) l.fn.search l.search;
+  choices : AreChoices l.here.game.now [] [] (drop 1 l.here.rest.now) l.here.depth l.fn.search.bx l.window l.fn.values.low l.choice l.choices;
 }
 
-abbrev pub invariant-worst_answer-loop-value : goal.invariant-worst_answer-loop-value
-invariant-worst_answer-loop-value l = record {
-  from : (range_at l.fn.search.bx l.here.depth).low ≤ℤ l.value;
-  to : (range_at l.fn.search.bx l.here.depth).low <ℤ l.value → l.value ≤ℤ ((range_at l.fn.search.bx l.here.depth).high +ℤ pos 1);
-  moved : Moved l.here.game.now (WentBelow l.entry) l.fn.search l.search;
-  untried : AreUntriedFrom l.search.journal.entries l.entry l.value;
-  answers : AreAnswers l.here.game.now [] [] l.here.rest.now l.here.depth l.fn.search.bx l.window (next_value l.completion) (range_at l.fn.search.bx l.here.depth).low l.value l.answers;
+abbrev pub invariant-answers_in-loop-value : goal.invariant-answers_in-loop-value
+invariant-answers_in-loop-value l = record {
+  from : l.fn.values.low ≤ℤ l.value;
+  to : l.fn.values.low <ℤ l.value → l.value ≤ℤ (l.fn.values.high +ℤ pos 1);
+  moved : Moved l.here.game.now (WentAmong l.entry l.fn.values.low l.value) l.fn.search l.search;
+  answers : AreAnswers l.here.game.now [] [] l.here.rest.now l.here.depth l.fn.search.bx l.window (next_value l.completion) l.fn.values.low l.value l.answers;
 }
