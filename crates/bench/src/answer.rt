@@ -42,8 +42,10 @@ fn of_problem(alloc: Global, word: &str, asked: Asked) -> Result<String, Memory>
         "runs" => runs_line(alloc, Density::Dense, asked),
         "sparse-runs" => runs_line(alloc, Density::Sparse, asked),
         "solve" => solve_line(alloc, asked),
-        "leaves" => leaf_line(alloc, asked),
-        "leaf-runs" => leaf_run_line(alloc, asked),
+        "leaves" => leaf_line(alloc, Density::Dense, asked),
+        "sparse-leaves" => leaf_line(alloc, Density::Sparse, asked),
+        "leaf-runs" => leaf_run_line(alloc, Density::Dense, asked),
+        "sparse-leaf-runs" => leaf_run_line(alloc, Density::Sparse, asked),
         _ => unasked(alloc),
     }
 }

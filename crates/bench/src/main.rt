@@ -6,8 +6,8 @@
 //! - `runs` or `sparse-runs`, the size and the number of a made problem, and how many times its relaxation is
 //!   solved; as with `pivots` the last number is how many pivots left whole numbers over one denominator a row;
 //! - `solve`, the size and the number of a made problem, and how many times its game is solved;
-//! - `leaves`, the size and the number of a made problem with one leaf, and how many times it is
-//!   solved; or `leaf-runs` for the run of this leaf's relaxation alone;
+//! - `leaves` or `sparse-leaves`, the size and the number of a made problem with one leaf, and how many times it is
+//!   solved; or `leaf-runs` or `sparse-leaf-runs` for the run of this leaf's relaxation alone;
 //! - `boxes`, and how the boxes along a random play of a made problem are gone through (`Play`).
 #![tactic(auto)]
 

@@ -70,10 +70,10 @@ pub fn continuous_text_of(alloc: Global, made: Made, wholes: u32) -> Result<Stri
     Ok(out)
 }
 
-/// The text of the made problem, but that its variables are continuous, from 0 to 10, behind twenty whole ones that can only
-/// be 0 and are in no row.
-pub fn mixed_text_of(alloc: Global, made: Made) -> Result<String, Memory> {
-    let text = made.text(alloc)?;
+/// The text of the made problem, whose rows keep so many of their terms, but that its variables are continuous, from 0 to 10,
+/// behind twenty whole ones that can only be 0 and are in no row.
+pub fn mixed_text_of(alloc: Global, density: Density, made: Made) -> Result<String, Memory> {
+    let text = text_of(alloc, density, made)?;
     let mut out = String::from_str(alloc, without_lists(text.as_str()))?;
     out.push_str("BOUNDS\n")?;
     push_ends(alloc, &mut out, "w", WHOLES, 0)?;
