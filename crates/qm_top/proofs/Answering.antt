@@ -28,7 +28,7 @@ use Rattle.qm_top.specs.declared.command.Command.TheVariants.{Gen, GenSolve, Sol
 use Rattle.qm_top.specs.Words.{Asks}
 use Rattle.qm_top.specs.Lines.{line}
 use Rattle.qm_top.specs.Completeness.{IsDueMade, IsDueTo, IsDue, IsNoMemory, IsReport}
-use Rattle.qm_top.specs.Answers.{Claims, IsAnswer, Makes, Reading, Solves, SolvesMade, SolvesProblem, SolvesText, Summarizes, misused, solved, generated, made_and_solved, whole_text, longer, failed, no_room, claimed, left, spent, stated, refused, out_of_memory, made, no_room_for_text, summed, spent_on, no_room_for_answer}
+use Rattle.qm_top.specs.Answers.{Claims, IsAnswer, Makes, Reading, Readings, reading, Solves, SolvesMade, SolvesProblem, SolvesText, Summarizes, misused, solved, generated, made_and_solved, whole_text, longer, failed, no_room, claimed, left, spent, stated, refused, out_of_memory, made, no_room_for_text, summed, spent_on, no_room_for_answer}
 use Rattle.qm_top.specs.declared.report.Report.{Report}
 use Rattle.qm_top.specs.FaultLines.{TellsNormal}
 use Rattle.qm_top.specs.Refusals.{Refuses, beyond}
@@ -202,21 +202,25 @@ made_and_solved_due words read status text number size asks solves =
     let same : generated_problem number size ≡ generated_problem other another = ap (λ n. generated_problem n size) numbers ∙ ap (λ n. generated_problem other n) sizes in
     problem_made (generated_problem other another) status text (subst (λ P. SolvesMade P status text) same solves))
 
-complete_answer : OneDecimal → (words : List (List ℕ)) (read : Reading) (status : ℕ) (text : List ℕ) → IsAnswer words read status text → IsDueTo words read status text
+complete_answer : OneDecimal → (words : List (List ℕ)) (read : Readings) (status : ℕ) (text : List ℕ) → IsAnswer words read status text → IsDueTo words read.problem status text
 complete_answer law words read status text (misused none unread is line) = record {
   misused = λ no. (is, line);
   solve = λ nodes bytes asks told still. absurd (none (Solve nodes) asks);
   gen = λ number size asks. absurd (none (Gen number size) asks);
   gen_solve = λ number size asks. absurd (none (GenSolve number size) asks);
 }
-complete_answer law words read status text (solved nodes asks solves) = solved_due law words read status text nodes asks solves
-complete_answer law words read status text (generated number size asks unread makes) = made_due words read status text number size asks makes
-complete_answer law words read status text (made_and_solved number size asks unread solves) = made_and_solved_due words read status text number size asks solves
+complete_answer law words read status text (solved nodes asks others solves) = solved_due law words read.problem status text nodes asks solves
+complete_answer law words read status text (generated number size asks unread makes) = made_due words read.problem status text number size asks makes
+complete_answer law words read status text (made_and_solved number size asks unread solves) = made_and_solved_due words read.problem status text number size asks solves
+
+-- a source that wasn't read, by what it told before
+abbrev pub unread : Option (List ℕ) → ℕ → Reading
+unread before faults = reading before before faults faults
 
 -- the sink took the text of a report
-pub complete_report : OneDecimal → (before after : Option (List ℕ)) (words : List (List ℕ)) (read : Reading) (status due : ℕ) (text : List ℕ)
+pub complete_report : OneDecimal → (before after : Option (List ℕ)) (words : List (List ℕ)) (read : Readings) (status due : ℕ) (text : List ℕ)
     → IsAnswer words read due text → status ≡ due → Appends before after text
-    → (taken : List ℕ) × Appends before after taken × IsDueTo words read status taken
+    → (taken : List ℕ) × Appends before after taken × IsDueTo words read.problem status taken
 complete_report law before after words read status due text answer is taken =
     (text, taken, complete_answer law words read status text (subst (λ n. IsAnswer words read n text) (sym is) answer))
 

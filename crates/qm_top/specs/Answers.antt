@@ -42,6 +42,26 @@ pub record IsUnread (read : Reading) : Type 0 where
   pub bytes : read.after ≡ read.before
   pub faults : read.faults_after ≡ read.faults_before
 
+-- what became of the three sources
+pub record Readings : Type 0 where
+  pub problem : Reading
+  pub certificate : Reading
+  pub moves : Reading
+
+abbrev pub readings : Reading → Reading → Reading → Readings
+readings problem certificate moves = record { problem = problem; certificate = certificate; moves = moves }
+
+-- the problem alone may have been read
+pub record ReadsProblemAlone (read : Readings) : Type 0 where
+  pub certificate : IsUnread read.certificate
+  pub moves : IsUnread read.moves
+
+-- none of them was read
+pub record AreUnread (read : Readings) : Type 0 where
+  pub problem : IsUnread read.problem
+  pub certificate : IsUnread read.certificate
+  pub moves : IsUnread read.moves
+
 -- The text is that of a certificate that passes, and what it claims is how the problem ends. Where it claims a value,
 -- its policy meets every row and reaches the value on every universal play.
 pub record Claims (P : Problem) (text : List ℕ) : Type 0 where
@@ -103,22 +123,22 @@ pub data SolvesMade (P : Problem) (status : ℕ) (text : List ℕ) : Type 0 wher
 
 -- The answers, by command. Where the words are none of the forms, nothing is read and the usage is told; nothing is read
 -- either where a problem is made.
-pub data IsAnswer (words : List (List ℕ)) (problem : Reading) (status : ℕ) (text : List ℕ) : Type 0 where
-  misused : ((command : Command) → ¬ Asks command words) → IsUnread problem → status ≡ 2 → text ≡ usage → IsAnswer words problem status text
-  solved : (nodes : ℕ) → Asks (Solve nodes) words → Solves problem nodes status text → IsAnswer words problem status text
-  generated : (number size : ℕ) → Asks (Gen number size) words → IsUnread problem → Makes number size status text → IsAnswer words problem status text
-  made_and_solved : (number size : ℕ) → Asks (GenSolve number size) words → IsUnread problem → SolvesMade (generated_problem number size) status text → IsAnswer words problem status text
+pub data IsAnswer (words : List (List ℕ)) (read : Readings) (status : ℕ) (text : List ℕ) : Type 0 where
+  misused : ((command : Command) → ¬ Asks command words) → AreUnread read → status ≡ 2 → text ≡ usage → IsAnswer words read status text
+  solved : (nodes : ℕ) → Asks (Solve nodes) words → ReadsProblemAlone read → Solves read.problem nodes status text → IsAnswer words read status text
+  generated : (number size : ℕ) → Asks (Gen number size) words → AreUnread read → Makes number size status text → IsAnswer words read status text
+  made_and_solved : (number size : ℕ) → Asks (GenSolve number size) words → AreUnread read → SolvesMade (generated_problem number size) status text → IsAnswer words read status text
 
 -- the sink took exactly the text that goes with this status
-pub record Took (before after : Option (List ℕ)) (words : List (List ℕ)) (problem : Reading) (status : ℕ) : Type 0 where
+pub record Took (before after : Option (List ℕ)) (words : List (List ℕ)) (read : Readings) (status : ℕ) : Type 0 where
   pub text : List ℕ
-  pub answer : IsAnswer words problem status text
+  pub answer : IsAnswer words read status text
   pub taken : Appends before after text
 
 -- the sink failed, and took a part of the text that goes with some status
-pub record Failed (before after : Option (List ℕ)) (faults_before faults_after : ℕ) (words : List (List ℕ)) (problem : Reading) : Type 0 where
+pub record Failed (before after : Option (List ℕ)) (faults_before faults_after : ℕ) (words : List (List ℕ)) (read : Readings) : Type 0 where
   pub status : ℕ
   pub text : List ℕ
-  pub answer : IsAnswer words problem status text
+  pub answer : IsAnswer words read status text
   pub taken : AppendsFront before after text
   pub rose : Rose faults_before faults_after
