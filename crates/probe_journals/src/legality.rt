@@ -1,4 +1,4 @@
-ghost use Rattle.std.specs.Prelude.{◌≡◌, ◌<◌, [], IsTrue, length};
+ghost use Rattle.std.specs.Prelude.{◌≡◌, ◌<◌, [], IsTrue, Some, length};
 ghost use Rattle.qm_model.specs.Boxes.{IsBox, bounds_of};
 ghost use Rattle.qm_model.specs.declared.variable.Player.TheVariants.{All as Universal};
 ghost use Rattle.qm_legal.specs.Queries.{AreFree, AreSet, IsQuery};
@@ -51,12 +51,18 @@ fn asked_value(alloc: Global, game: &Game, bx: &Bx) -> Result<Legality, LegalFau
     requires turn { IsUniversalTurn game.now [] }
     requires some { 0 < length bx.now }
 {
-    let named = NamedPrefix {
-        parent: 0,
-        value: Some(bx.as_slice()[0].low),
-    };
     let mut journal = Journal::new(alloc, MOST);
-    legal(alloc, game, bx, named, &mut journal)
+    legal(alloc, game, bx, first_value(bx.as_slice()[0]), &mut journal)
+}
+
+// The value of the first variable.
+fn first_value(range: Range) -> NamedPrefix
+    ensures { result ≡ record { parent = 0; value = Some range.low } }
+{
+    NamedPrefix {
+        parent: 0,
+        value: Some(range.low),
+    }
 }
 
 fn answer_line(
