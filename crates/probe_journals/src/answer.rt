@@ -1,8 +1,9 @@
 ghost use Rattle.std.specs.Prelude.{◌≤◌, IfOk};
 
 use crate::asked::asked_line;
-use crate::entries::enough_line;
+use crate::entries::{enough_line, lawful_line};
 use crate::legality::legal_line;
+use crate::plays::plays_line;
 use probe_words::{NoAnswer, Stated, behind, box_of, game_before, line_of, parted};
 use qm_game::Game;
 use std::alloc::{AllocError, Global};
@@ -16,18 +17,18 @@ pub fn answer(alloc: Global, line: &str) -> Result<String, AllocError> {
     }
 }
 
-fn journal_answer(
-    alloc: Global,
-    word: &str,
-    game: &Game,
-    words: &str,
-) -> Result<String, NoAnswer> {
+fn journal_answer(alloc: Global, word: &str, game: &Game, words: &str) -> Result<String, NoAnswer> {
     match word {
         "legal" => {
             let (ranges, depth) = parted(words, "depth ");
             Ok(legal_line(alloc, game, box_of(alloc, game, ranges)?, depth)?)
         }
         "asked" => asked_line(alloc, game, limit_in(words)?),
+        "plays" => plays_line(alloc, game, limit_in(words)?),
+        "lawful" => {
+            let (_, entries) = parted(words, "of ");
+            lawful_line(alloc, game, entries)
+        }
         "enough" => Ok(enough_line(alloc, game)?),
         _ => Err(NoAnswer::Spelling),
     }

@@ -1,7 +1,7 @@
 ghost use Rattle.std.specs.Prelude.{◌≡◌, ◌↔◌, ◌<◌, ◌^◌, IsSomeAnd, IsTrue, filter, int_lt, length, slice_get};
 ghost use Rattle.std.specs.List.{list_any};
 ghost use Rattle.qm_model.specs.declared.variable.Player.TheVariants.{All as Universal};
-ghost use Rattle.qm_model.specs.Plays.{is_universal, whole_vars};
+ghost use Rattle.qm_model.specs.Plays.{BeginWithin, IsWithin, is_universal, whole_vars};
 ghost use Rattle.qm_journal.specs.Lawful.{is_restricted};
 
 use qm_game::{Game, Var};
@@ -42,4 +42,23 @@ pub fn is_universal_turn(vars: &[Var], depth: usize) -> bool
         Some(var) => is_for_all(var),
         None => false,
     }
+}
+
+/// Whether the values are of the first variables, each within its bounds.
+pub fn begin_within(vars: &[Var], values: &[i64]) -> bool
+    ensures { IsTrue result → BeginWithin vars.now values.now }
+{
+    match values.split_first() {
+        Some((value, rest)) => match vars.split_first() {
+            Some((var, later)) => is_within(var, *value) && begin_within(later, rest),
+            None => false,
+        },
+        None => true,
+    }
+}
+
+fn is_within(var: &Var, value: i64) -> bool
+    ensures { IsTrue result → IsWithin var.now value }
+{
+    var.low <= value && value <= var.high
 }

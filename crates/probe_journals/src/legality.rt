@@ -78,6 +78,7 @@ fn answer_line(
         answer => answer_words(alloc, &answer),
     }
 }
+
 fn illegal_line(alloc: Global, game: &Game, bx: Bx, tree: Empty) -> Result<String, AllocError>
     requires { IsBox game.now.vars bx }
 {
