@@ -16,12 +16,7 @@ pub fn answer(alloc: Global, line: &str) -> Result<String, AllocError> {
     }
 }
 
-fn tree_answer(
-    alloc: Global,
-    word: &str,
-    game: &Game,
-    words: &str,
-) -> Result<String, NoAnswer> {
+fn tree_answer(alloc: Global, word: &str, game: &Game, words: &str) -> Result<String, NoAnswer> {
     match word {
         "combination" => combination_of(alloc, game, words),
         "empty" => {

@@ -14,12 +14,7 @@ pub fn answer(alloc: Global, line: &str) -> Result<String, AllocError> {
     }
 }
 
-fn box_answer(
-    alloc: Global,
-    word: &str,
-    game: &Game,
-    words: &str,
-) -> Result<String, NoAnswer> {
+fn box_answer(alloc: Global, word: &str, game: &Game, words: &str) -> Result<String, NoAnswer> {
     match word {
         "rows" => Ok(rows_line(alloc, game, &box_of(alloc, game, words.trim_end())?)?),
         "point" => {

@@ -14,12 +14,7 @@ pub fn answer(alloc: Global, line: &str) -> Result<String, AllocError> {
     }
 }
 
-fn run_answer(
-    alloc: Global,
-    word: &str,
-    game: &Game,
-    words: &str,
-) -> Result<String, NoAnswer> {
+fn run_answer(alloc: Global, word: &str, game: &Game, words: &str) -> Result<String, NoAnswer> {
     match word {
         "run" => run_of(alloc, game, words),
         "relax" => relax_of(alloc, game, words, false),
@@ -43,12 +38,7 @@ fn relax_of(alloc: Global, game: &Game, words: &str, pointed: bool) -> Result<St
     Ok(relax_line(alloc, game, &bx, words, pointed)?)
 }
 
-fn scenario_of(
-    alloc: Global,
-    game: &Game,
-    words: &str,
-    pointed: bool,
-) -> Result<String, NoAnswer> {
+fn scenario_of(alloc: Global, game: &Game, words: &str, pointed: bool) -> Result<String, NoAnswer> {
     let bx = box_of(alloc, game, ranges_in(words))?;
     Ok(scenario_line(alloc, game, &bx, words, pointed)?)
 }
