@@ -1,5 +1,5 @@
 -- Boxes in which the first variables have values.
-use Rattle.std.proofs.Common.{◌≡◌, ◌↔◌, arith, ◌∙◌, sym, refl, ap, subst, ℕ, zero, suc, ◌≤◌, Bool, true, false, if◌then◌else◌, List, [], ◌∷◌, ◌++◌, length, take, drop, filter, map, ℤ}
+use Rattle.std.proofs.Common.{◌≡◌, ◌↔◌, arith, ◌∙◌, sym, refl, ap, subst, ℕ, zero, suc, ◌≤◌, if◌then◌else◌, List, [], ◌∷◌, ◌++◌, length, take, drop, map, ℤ}
 use Rattle.std.proofs.lemmas.Int.{ints}
 use Rattle.std.proofs.lemmas.List.{append-nil, length-take}
 use Rattle.qm_model.specs.declared.range.Range.{Range}
@@ -9,8 +9,7 @@ use Rattle.qm_model.specs.declared.game.Problem.{Problem}
 use Rattle.qm_model.specs.Legal.{IsLegal, IsPrefix, universal_part}
 use Rattle.qm_model.specs.Plays.{BeginWithin, IsWithin, is_universal, whole_vars}
 use Rattle.qm_model.specs.Ranges.{single}
-use Rattle.qm_model.proofs.BoxLaws.{inside_itself, whole_box_is_box}
-use Rattle.qm_model.proofs.Players.{by_player, is_for_all, not_universal}
+use Rattle.qm_model.proofs.BoxLaws.{whole_box_is_box}
 use Rattle.qm_model.proofs.LegalMoves.{BeginWithin-long, universal_part-none}
 use Rattle.qm_legal.specs.Queries.{AreFree, AreSet, IsCompletion, IsExact, IsQuery, IsQueryOf, low_of, set_values}
 use Rattle.qm_legal.specs.declared.legality.Legality.{Legality}

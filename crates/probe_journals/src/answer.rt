@@ -21,7 +21,7 @@ fn journal_answer(alloc: Global, word: &str, game: &Game, words: &str) -> Result
     match word {
         "legal" => {
             let (ranges, depth) = parted(words, "depth ");
-            Ok(legal_line(alloc, game, box_of(alloc, game, ranges)?, depth)?)
+            legal_line(alloc, game, box_of(alloc, game, ranges)?, depth)
         }
         "asked" => asked_line(alloc, game, limit_in(words)?),
         "plays" => plays_line(alloc, game, limit_in(words)?),

@@ -9,7 +9,7 @@ use probe_words::{NoAnswer, number_words};
 use qm_game::{Bx, Game, whole_box};
 use qm_journal::Journal;
 use qm_legal::{LegalFault, Legality, NamedPrefix, legal};
-use std::alloc::{AllocError, Global};
+use std::alloc::Global;
 
 /// The most entries that a journal may have.
 pub const MOST: u64 = 50_000_000;
@@ -74,18 +74,18 @@ pub fn is_completed(answer: &Result<Legality, LegalFault>) -> bool
     }
 }
 
-/// What was answered: a completion, that there is none, or the fault.
+/// What was answered: a completion, that there is none, or that the journal is spent.
 pub fn answer_words(
     alloc: Global,
     answer: &Result<Legality, LegalFault>,
-) -> Result<String, AllocError> {
+) -> Result<String, NoAnswer> {
     match answer {
         Ok(Legality::Completion(values)) => {
             let values = number_words(alloc, values.as_slice())?;
-            format!(in alloc; "completion{values}")
+            Ok(format!(in alloc; "completion{values}")?)
         }
-        Ok(Legality::Illegal(_)) => String::from_str(alloc, "illegal"),
-        Err(LegalFault::Spent) => String::from_str(alloc, "spent"),
-        Err(LegalFault::Memory) => String::from_str(alloc, "memory"),
+        Ok(Legality::Illegal(_)) => Ok(String::from_str(alloc, "illegal")?),
+        Err(LegalFault::Spent) => Ok(String::from_str(alloc, "spent")?),
+        Err(LegalFault::Memory) => Err(NoAnswer::Memory),
     }
 }

@@ -6,7 +6,7 @@ ghost use Rattle.qm_journal.specs.Lawful.{IsUniversalTurn};
 
 use crate::asked::{MOST, answer_words};
 use crate::first_values::{is_universal_turn, whole_vars};
-use probe_words::{number_words, one_line, test_line};
+use probe_words::{NoAnswer, one_line, test_line};
 use qm_certfile::{Certificate, write};
 use qm_combo::test_empty;
 use qm_game::{Bx, Game, Player, Range, Var};
@@ -17,7 +17,7 @@ use std::alloc::{AllocError, Global};
 /// Whether the value of the first variable, which the universal player sets and which is set in the box, can be completed
 /// to a play, for the depth 1; for the depth 0, whether there is a play: the values of the later universal variables, or
 /// the lines of the tree that shows that there are none, and whether it passes.
-pub fn legal_line(alloc: Global, game: &Game, bx: Bx, depth: &str) -> Result<String, AllocError>
+pub fn legal_line(alloc: Global, game: &Game, bx: Bx, depth: &str) -> Result<String, NoAnswer>
     requires { IsBox game.now.vars bx }
 {
     match depth.parse::<u32>() {
@@ -27,11 +27,11 @@ pub fn legal_line(alloc: Global, game: &Game, bx: Bx, depth: &str) -> Result<Str
             } else if is_universal_turn(whole_vars(game), 0) && bx.len() > 0 {
                 answer_line(alloc, game, asked_value(alloc, game, &bx), bx)
             } else {
-                String::from_str(alloc, "no query")
+                Ok(String::from_str(alloc, "no query")?)
             }
         }
-        Ok(_) => String::from_str(alloc, "no query"),
-        Err(_) => String::from_str(alloc, "?"),
+        Ok(_) => Ok(String::from_str(alloc, "no query")?),
+        Err(_) => Err(NoAnswer::Spelling),
     }
 }
 
@@ -70,11 +70,11 @@ fn answer_line(
     game: &Game,
     answer: Result<Legality, LegalFault>,
     bx: Bx,
-) -> Result<String, AllocError>
+) -> Result<String, NoAnswer>
     requires { IsBox game.now.vars bx }
 {
     match answer {
-        Ok(Legality::Illegal(tree)) => illegal_line(alloc, game, bx, tree),
+        Ok(Legality::Illegal(tree)) => Ok(illegal_line(alloc, game, bx, tree)?),
         answer => answer_words(alloc, &answer),
     }
 }

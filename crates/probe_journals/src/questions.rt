@@ -3,7 +3,7 @@ ghost use Rattle.qm_model.specs.Legal.{IsLegal, IsPrefix};
 ghost use Rattle.qm_journal.specs.declared.entry.JKind.TheVariants as kind;
 ghost use Rattle.qm_journal.specs.Lawful.{IsLawful, IsUniversalTurn};
 ghost use Rattle.qm_journal.specs.Positions.{IsParent, position_of};
-ghost use Rattle.qm_journal.specs.Questions.{IsNewQuestion, named_prefix};
+ghost use Rattle.qm_journal.specs.Questions.{IsNewQuestion};
 ghost use Rattle.qm_legal.specs.Queries.{IsCompletion};
 
 use crate::asked::{answer_words, is_completed};
