@@ -2,8 +2,8 @@ ghost use Rattle.std.specs.Prelude.{List};
 ghost use Rattle.qm_model.specs.declared.variable.Var.{Var};
 ghost use Rattle.qm_model.specs.Boxes.{IsBox};
 
-use crate::drawn::{Density, text_of};
-use crate::runs::game_of;
+use crate::answer::unasked;
+use bench_made::{Made, continuous_text_of, game_of};
 use qm_frac::Frac;
 use qm_game::{Bx, Game, Goal, Range, has_empty, try_narrow, whole_box};
 use qm_io::{List, Memory};
@@ -12,14 +12,14 @@ use qm_simplex::{LpEnd, LpFault, solve_lp};
 use qm_tableau::first;
 use std::alloc::Global;
 
-/// What is done with each box of a play.
-#[derive(Clone, Copy, PartialEq, Eq)]
+// What is done with each box of a play.
+#[derive(Clone, Copy)]
 enum Part {
-    /// Its first tableau is made.
+    // Its first tableau is made.
     First,
-    /// Its relaxation is solved.
+    // Its relaxation is solved.
     Solve,
-    /// It is relaxed.
+    // It is relaxed.
     Relax,
 }
 
@@ -34,46 +34,42 @@ impl Part {
     }
 }
 
-/// The boxes of a random play of a made problem: of so many variables, the first so many of which are whole, and with
-/// values that the seed decides. Either all of them, or those whose run makes no pivot.
+// The boxes of a random play of a made problem, of which the first so many variables are whole, with values that its number
+// decides. Either all of them, or those whose run makes no pivot.
 #[derive(Clone, Copy)]
-pub struct Play {
+struct Play {
     part: Part,
     still: bool,
-    size: u32,
+    made: Made,
     wholes: u32,
-    seed: u32,
     times: u32,
 }
 
-/// How many boxes there were, and how many pivots their runs make.
+// How many boxes there were, and how many pivots their runs make.
 #[derive(Clone, Copy)]
-pub struct Walked {
-    pub boxes: u64,
-    pub pivots: u64,
+struct Walked {
+    boxes: u64,
+    pivots: u64,
 }
 
 impl Play {
-    pub fn read(words: &[String]) -> Option<Play> {
+    fn read(words: &[String]) -> Option<Play> {
         match words {
-            [part, boxes, size, wholes, seed, times] => Some(Play {
+            [part, boxes, size, wholes, number, times] => Some(Play {
                 part: Part::read(part.as_str())?,
                 still: boxes.as_str() == "still",
-                size: size.as_str().parse::<u32>().ok()?,
+                made: Made::read(size.as_str(), number.as_str())?,
                 wholes: wholes.as_str().parse::<u32>().ok()?,
-                seed: seed.as_str().parse::<u32>().ok()?,
                 times: times.as_str().parse::<u32>().ok()?,
             }),
             _ => None,
         }
     }
 
-    /// Walks along the play so many times; what there was to walk along, nothing where there is no such problem.
-    pub fn walked(self, alloc: Global) -> Result<Walked, Memory> {
-        let text = text_of(alloc, Density::Dense, self.size, self.wholes, self.seed).map_err(
-            |_| Memory,
-        )?;
-        match game_of(alloc, &text) {
+    // Walks along the play so many times; what there was to walk along, nothing where there is no such problem.
+    fn walked(self, alloc: Global) -> Result<Walked, Memory> {
+        let text = continuous_text_of(alloc, self.made, self.wholes)?;
+        match game_of(alloc, text.as_str()) {
             Some(game) => self.walked_on(alloc, &game),
             None => Ok(Walked {
                 boxes: 0,
@@ -83,7 +79,7 @@ impl Play {
     }
 
     fn walked_on(self, alloc: Global, game: &Game) -> Result<Walked, Memory> {
-        let chosen = pivots_along(alloc, game, self.seed)?;
+        let chosen = pivots_along(alloc, game, self.made.number())?;
         let mut walked = Walked {
             boxes: 0,
             pivots: 0,
@@ -106,9 +102,22 @@ impl Play {
             if !self.still || *pivots == 0 {
                 self.part.done(alloc, game, &bx)?;
             }
-            set_next(&mut bx, depth, self.seed);
+            set_next(&mut bx, depth, self.made.number());
         }
         Ok(())
+    }
+}
+
+/// How many boxes were gone through, and how many pivots their runs make.
+pub fn boxes_line(alloc: Global, words: &[String]) -> Result<String, Memory> {
+    match Play::read(words) {
+        Some(play) => {
+            let walked = play.walked(alloc)?;
+            let boxes = walked.boxes;
+            let pivots = walked.pivots;
+            Ok(format!(in alloc; "{boxes} {pivots}")?)
+        }
+        None => unasked(alloc),
     }
 }
 

@@ -1,15 +1,11 @@
-ghost use Rattle.std.specs.Prelude.{◌<◌, ◌^◌, Any, Ok, length};
-ghost use Rattle.qm_lex.specs.Texts.{AreTokens};
+ghost use Rattle.std.specs.Prelude.{Any};
 ghost use Rattle.qm_model.specs.Boxes.{IsBox, IsEmptyRange};
-ghost use Rattle.qm_parse.specs.Parsing.{IsParsed};
 
-use crate::drawn::{Density, text_of};
-use crate::texts::MOST;
+use crate::answer::unasked;
+use crate::asked::Asked;
+use bench_made::{Density, game_of, text_of};
 use qm_game::{Bx, Game, has_empty, whole_box};
 use qm_io::{List, Memory};
-use qm_lex::{Token, tokens};
-use qm_normal::{normal, trees_of_texts_are_in_order};
-use qm_parse::{Ast, parse};
 use qm_simplex::{LpEnd, LpFault, solve_lp};
 use qm_tableau::{Choice, Tableau, first};
 use std::alloc::Global;
@@ -50,71 +46,27 @@ impl Ended {
             whole: 0,
         }
     }
-
-    /// No run.
-    pub fn none() -> Ended {
-        Ended::new(Ending::None, 0)
-    }
 }
 
-/// So many runs at the root of the problem of so many variables that the seed decides.
-#[derive(Clone, Copy)]
-pub struct Runs {
-    density: Density,
-    size: u32,
-    seed: u32,
-    times: u32,
-}
-
-impl Runs {
-    pub fn read(density: &str, size: &str, seed: &str, times: &str) -> Option<Runs> {
-        Some(Runs {
-            density: match density {
-                "runs" => Density::Dense,
-                "sparse-runs" => Density::Sparse,
-                _ => return None,
-            },
-            size: size.parse::<u32>().ok()?,
-            seed: seed.parse::<u32>().ok()?,
-            times: times.parse::<u32>().ok()?,
-        })
-    }
-
-    /// How the last run ends; `None` where there is no run, or no such problem.
-    pub fn last(self, alloc: Global) -> Result<Ended, Memory> {
-        let text = text_of(alloc, self.density, self.size, self.size, self.seed).map_err(
-            |_| Memory,
-        )?;
-        match game_of(alloc, &text) {
-            Some(game) => last_on(alloc, &game, self.times),
-            None => Ok(Ended::none()),
+/// How the last run over a made problem ends, after how many pivots, and how many of these left whole numbers.
+pub fn runs_line(alloc: Global, density: Density, asked: Asked) -> Result<String, Memory> {
+    let text = text_of(alloc, density, asked.made)?;
+    match game_of(alloc, text.as_str()) {
+        Some(game) => {
+            let ended = last_on(alloc, &game, asked.times)?;
+            let word = ended.ending.word();
+            let pivots = ended.pivots;
+            let whole = ended.whole;
+            Ok(format!(in alloc; "{word} {pivots} {whole}")?)
         }
+        None => unasked(alloc),
     }
-}
-
-/// The game that the text states; none where it states none, or memory runs out.
-pub fn game_of(alloc: Global, text: &[u8]) -> Option<Game> {
-    if text.len() > MOST {
-        return None;
-    }
-    let tokens = tokens(alloc, text).ok()?;
-    let ast = parse(alloc, text, tokens.as_slice()).ok()?;
-    game_of_tree(alloc, text, tokens.as_slice(), &ast)
-}
-
-fn game_of_tree(alloc: Global, text: &[u8], tokens: &[Token], ast: &Ast) -> Option<Game>
-    requires short { length text.now < 2 ^ 31 }
-    requires tokens { AreTokens text.now tokens.now }
-    requires ast { IsParsed text.now tokens.now (Ok ast.now) }
-{
-    trees_of_texts_are_in_order();
-    normal(alloc, ast).ok()
 }
 
 /// How the last of so many runs over the whole box ends.
 pub fn last_on(alloc: Global, game: &Game, times: u32) -> Result<Ended, Memory> {
     let bx = whole_box(alloc, game)?;
-    let mut ended = Ended::none();
+    let mut ended = Ended::new(Ending::None, 0);
     if has_empty(&bx) {
         return Ok(ended);
     }

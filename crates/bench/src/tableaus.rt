@@ -1,21 +1,21 @@
 ghost use Rattle.qm_model.specs.Boxes.{IsBox};
 
-use crate::drawn::{Density, text_of};
-use crate::runs::game_of;
+use crate::answer::unasked;
+use bench_made::{Density, Made, game_of, text_of};
 use qm_game::{Bx, Game, whole_box};
 use qm_io::{List, Memory};
 use qm_tableau::{Tableau, first};
 use std::alloc::Global;
 
-/// The first tableau of a made problem, dense or sparse, of so many variables.
+// The first tableau of the first made problem of a size, dense or sparse.
 #[derive(Clone, Copy)]
-pub struct Shape {
+struct Shape {
     density: Density,
-    size: u32,
+    made: Made,
 }
 
 impl Shape {
-    pub fn read(word: &str) -> Option<Shape> {
+    fn read(word: &str) -> Option<Shape> {
         let (size, density) = word.split_once('-')?;
         let density = match density {
             "dense" => Density::Dense,
@@ -24,22 +24,22 @@ impl Shape {
         };
         Some(Shape {
             density,
-            size: size.parse::<u32>().ok()?,
+            made: Made::new(size.parse::<u32>().ok()?, 1)?,
         })
     }
 }
 
-/// How many pivots were done, and how many of these left whole numbers over one denominator a row.
+// How many pivots were done, and how many of these left whole numbers over one denominator a row.
 #[derive(Clone, Copy)]
-pub struct Done {
-    pub pivots: u32,
-    pub whole: u32,
+struct Done {
+    pivots: u32,
+    whole: u32,
 }
 
 // The first tableau of this shape; none where no such game is.
-fn made(alloc: Global, shape: Shape) -> Result<Option<Tableau>, Memory> {
-    let text = text_of(alloc, shape.density, shape.size, shape.size, 1).map_err(|_| Memory)?;
-    match game_of(alloc, &text) {
+fn first_tableau(alloc: Global, shape: Shape) -> Result<Option<Tableau>, Memory> {
+    let text = text_of(alloc, shape.density, shape.made)?;
+    match game_of(alloc, text.as_str()) {
         Some(game) => {
             let bx = whole_box(alloc, &game)?;
             Ok(Some(first_of(alloc, &game, &bx)?))
@@ -82,14 +82,14 @@ fn place(tableau: &Tableau, turn: u32) -> (u32, u32) {
     (row, (turn / slacks % columns).wrapping_add(1))
 }
 
-/// What was done in so many turns. In each, a pivot is made where there is a positive entry, and a second one that
-/// takes it back, so that the entries stay small.
-pub fn pivots(alloc: Global, shape: Shape, turns: u32) -> Result<Done, Memory> {
+// What was done in so many turns. In each, a pivot is made where there is a positive entry, and a second one that
+// takes it back, so that the entries stay small.
+fn pivots(alloc: Global, shape: Shape, turns: u32) -> Result<Done, Memory> {
     let mut done = Done {
         pivots: 0,
         whole: 0,
     };
-    if let Some(mut tableau) = made(alloc, shape)? {
+    if let Some(mut tableau) = first_tableau(alloc, shape)? {
         for turn in 0..turns {
             let (row, col) = place(&tableau, turn);
             let back = row_of_column(&tableau, col);
@@ -102,4 +102,17 @@ pub fn pivots(alloc: Global, shape: Shape, turns: u32) -> Result<Done, Memory> {
         }
     }
     Ok(done)
+}
+
+/// How many pivots were done, and how many of these left whole numbers.
+pub fn pivots_line(alloc: Global, shape: &str, turns: &str) -> Result<String, Memory> {
+    match (Shape::read(shape), turns.parse::<u32>().ok()) {
+        (Some(shape), Some(turns)) => {
+            let done = pivots(alloc, shape, turns)?;
+            let pivots = done.pivots;
+            let whole = done.whole;
+            Ok(format!(in alloc; "{pivots} {whole}")?)
+        }
+        _ => unasked(alloc),
+    }
 }

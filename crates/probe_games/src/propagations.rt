@@ -1,6 +1,6 @@
 ghost use Rattle.qm_model.specs.Boxes.{IsBox};
 
-use crate::words::{counted, range_word, range_words, row_word};
+use probe_words::{counted, range_word, range_words, row_word};
 use qm_game::{Bx, Game};
 use qm_prop::{Propagated, Reason, propagate};
 use std::alloc::{AllocError, Global};

@@ -3,7 +3,7 @@ ghost use Rattle.qm_model.specs.Boxes.{IsBox};
 ghost use Rattle.qm_model.specs.Plays.{BeginWithin};
 ghost use Rattle.qm_model.specs.Sound.{IsRowOver};
 
-use crate::words::{counted, row_word};
+use probe_words::{counted, row_word};
 use qm_game::{Bx, Game, Row, Var, form_at, least, most, row_dead, row_holds};
 use std::alloc::{AllocError, Global};
 

@@ -44,3 +44,18 @@ fn op_word(op: Op) -> &'static str {
         Op::Div => "div",
     }
 }
+
+/// What the test of a tree answers.
+pub fn test_line(alloc: Global, passes: Result<bool, Leaves>) -> Result<String, AllocError> {
+    match passes {
+        Ok(true) => String::from_str(alloc, "passes"),
+        Ok(false) => String::from_str(alloc, "fails"),
+        Err(leaves) => leaves_line(alloc, leaves),
+    }
+}
+
+/// The operation that leaves, as an answer.
+pub fn leaves_line(alloc: Global, leaves: Leaves) -> Result<String, AllocError> {
+    let operation = leaves_text(alloc, leaves)?;
+    format!(in alloc; "leaves {operation}")
+}

@@ -1,5 +1,5 @@
 -- How the search goes from place to place.
-use Rattle.std.proofs.Common.{◌≡◌, refl, sym, ap, subst, ◌∙◌, ℕ, zero, suc, ◌+◌, ◌<◌, ◌≤◌, List, [], ◌∷◌, ◌++◌, length, take, drop, set, map, All, arith, ℤ, pos, ◌+ℤ◌, ◌-ℤ◌, ◌≤ℤ◌, ◌<ℤ◌, Option, Some, None, Ok, Err}
+use Rattle.std.proofs.Common.{◌≡◌, refl, sym, ap, subst, ◌∙◌, ℕ, zero, suc, ◌+◌, ◌<◌, ◌≤◌, List, [], ◌∷◌, ◌++◌, length, take, drop, set, map, All, arith, ℤ, pos, ◌+ℤ◌, ◌-ℤ◌, ◌≤ℤ◌, Option, Some, None, Ok, Err}
 use Rattle.std.specs.Prelude.{slice_set, Result, IfOk}
 use Rattle.std.proofs.lemmas.Int.{ints}
 use Rattle.std.proofs.lemmas.List.{length-drop, take_all, take-take, take-set-le, map-append}
@@ -9,7 +9,7 @@ use Rattle.qm_model.specs.declared.variable.Player.{Player}
 use Rattle.qm_model.specs.declared.variable.Player.TheVariants.{Exists}
 use Rattle.qm_model.specs.declared.variable.Var.{Var}
 use Rattle.qm_model.specs.declared.game.Problem.{Problem}
-use Rattle.qm_model.specs.Boxes.{Cover, FollowOn, IsDead}
+use Rattle.qm_model.specs.Boxes.{FollowOn, IsDead}
 use Rattle.qm_model.specs.Plays.{whole_vars}
 use Rattle.qm_game.specs.First.{HasNone}
 use Rattle.qm_game.proofs.NextVariables.{next_in_box}
@@ -166,14 +166,3 @@ module _ (P : Problem) (later : List Var) (depth : ℕ) (bx : List Range) where
     below = subst (All (λ part. Shows P later (depth + 1) (slice_set bx depth (range_of part)) (below_of part))) (sym push)
         (All-push (λ part. Shows P later (depth + 1) (slice_set bx depth (range_of part)) (below_of part)) parts part reached.below here.below);
   }
-
-  -- they cover the range once none of its values is left
-  pub reached_covers : (covered : Range) (next : ℤ) (parts : List EmptyPart) → Reached P later depth bx covered next parts → covered.high <ℤ next → Cover covered (map range_of parts)
-  reached_covers covered next parts reached past = by (map range_of parts) reached.follow reached.to
-    where
-      by : (rs : List Range) → FollowOn covered.low (next -ℤ pos 1) rs → ((rs ≡ [] → ⊥) → next ≤ℤ (covered.high +ℤ pos 1)) → Cover covered rs
-      by [] follow to = omega (arith, ints, follow, past)
-      by (r ∷ rs) follow to =
-          let most = to (λ e. cc) in
-          let last : next -ℤ pos 1 ≡ covered.high = omega (arith, ints, most, past) in
-          subst (λ n. FollowOn covered.low n (r ∷ rs)) last follow

@@ -31,9 +31,6 @@ follow_covers r [] some h = absurd (omega (arith, ints, some, h))
 follow_covers r (q ∷ rs) some h = h
 
 module _ (P : Problem) (later : List Var) (depth : ℕ) (bx : List Range) where
-  ShowsBelow : EmptyPart → Type 0
-  ShowsBelow part = Shows P later (depth + 1) (set bx depth (range_of part)) (below_of part)
-
   -- the parts of all values of the range
   pub reached_parts : (within : Range) (next : ℤ) (parts : List EmptyPart) (after : List Range) → Reached P later depth bx within next parts → within.low ≤ℤ within.high → within.high <ℤ next
       → after ≡ bx → AreFoundParts P later depth bx after within (Some parts)

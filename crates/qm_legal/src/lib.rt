@@ -6,13 +6,13 @@
 //! play, or a tree that is right over the box and of which no operation leaves (`IsRightLegality`); and the values exactly
 //! where a prefix with those that are set is legal (`IsExact`). `specs/Queries.antt` defines these, over the plays and
 //! legal prefixes of `qm_model` and the right trees of `qm_trees`. What it adds to the journal is what a question may add
-//! (`qm_journal`), and the journal stays lawful. [`complete`] answers the same without a journal.
+//! (`qm_journal`), and the journal stays lawful.
 //!
-//! Within, first values that no uncertainty row refuses are guessed (`guess`). Where that fails, a depth-first search sets
-//! the universal variables in game order (`search`, `plain`), each from the low end of what propagation leaves on
-//! (`guide`). The first uncertainty row that is dead over a value's box closes it (`dead`), and with it the longest run of
-//! values that the row is dead over, found by bisection (`run`, `part`). `specs/SearchSteps.antt` and `JournalSteps.antt`
-//! define what these steps promise one another.
+//! Within, first values that no uncertainty row refuses are guessed (`guess`). Where that fails, a depth-first search
+//! sets the universal variables in game order (`search`), each from the low end of what propagation leaves on
+//! (`guide`). The first uncertainty row that is dead over a value's box closes it (`dead`), and with it the longest run
+//! of values that the row is dead over, found by bisection (`run`, `part`). `specs/SearchSteps.antt` and
+//! `JournalSteps.antt` define what these steps promise one another.
 #![tactic(auto)]
 
 mod answer;
@@ -25,8 +25,6 @@ mod guide;
 mod legality;
 mod named;
 mod part;
-mod plain;
-mod query;
 mod run;
 mod search;
 mod shown;
@@ -36,4 +34,3 @@ pub use fault::LegalFault;
 pub use legality::Legality;
 pub use named::NamedPrefix;
 pub use qm_trees::{Empty, EmptyPart};
-pub use query::complete;

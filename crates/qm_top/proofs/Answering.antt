@@ -3,6 +3,7 @@ use Rattle.std.proofs.Common.{◌≡◌, ◌≢◌, ◌⊎◌, ◌<◌, ◌≤�
 use Rattle.std.specs.Prelude.{codes}
 use Rattle.std.specs.Io.KnownBytes.{Appends, Consumes, IsAtEnd}
 use Rattle.qm_io.specs.Causes.{Rose}
+use Rattle.qm_gen.specs.Generated.{generated_problem, generated_text}
 use Rattle.qm_journal.specs.Enough.{enough}
 use Rattle.qm_journal.proofs.Counting.{lawful_below_enough}
 use Rattle.qm_model.specs.declared.game.Problem.{Problem}
@@ -22,10 +23,12 @@ use Rattle.qm_normal.specs.Normal.{normal_form}
 use Rattle.qm_normal.specs.Stated.{States}
 use Rattle.qm_normal.proofs.StatedOnce.{one_problem}
 use Rattle.qm_parse.proofs.OneSymbols.{OneDecimal}
-use Rattle.qm_top.specs.declared.command.Command.TheVariants.{Solve}
+use Rattle.qm_top.specs.declared.command.Command.{Command}
+use Rattle.qm_top.specs.declared.command.Command.TheVariants.{Gen, GenSolve, Solve}
+use Rattle.qm_top.specs.Words.{Asks}
 use Rattle.qm_top.specs.Lines.{line}
-use Rattle.qm_top.specs.Completeness.{IsDueTo, IsDue, IsNoMemory, IsReport}
-use Rattle.qm_top.specs.Answers.{Claims, IsAnswer, Reading, Solves, SolvesProblem, SolvesText, misused, solved, whole_text, longer, failed, no_room, claimed, left, spent, stated, refused, out_of_memory}
+use Rattle.qm_top.specs.Completeness.{IsDueMade, IsDueTo, IsDue, IsNoMemory, IsReport}
+use Rattle.qm_top.specs.Answers.{Claims, IsAnswer, Makes, Reading, Readings, reading, Solves, SolvesMade, SolvesProblem, SolvesText, Summarizes, misused, solved, generated, made_and_solved, whole_text, longer, failed, no_room, claimed, left, spent, stated, refused, out_of_memory, made, no_room_for_text, summed, spent_on, no_room_for_answer}
 use Rattle.qm_top.specs.declared.report.Report.{Report}
 use Rattle.qm_top.specs.FaultLines.{TellsNormal}
 use Rattle.qm_top.specs.Refusals.{Refuses, beyond}
@@ -33,7 +36,7 @@ use Rattle.qm_top.specs.Report.{status_of, text_of}
 use Rattle.qm_top.specs.Stating.{IsStated}
 use Rattle.qm_top.specs.declared.stated.Stated.{Stated}
 use Rattle.qm_top.specs.declared.stated.Stated.TheVariants as stating
-use Rattle.qm_top.proofs.OneBudget.{one_budget}
+use Rattle.qm_top.proofs.OneCommand.{one_command}
 use Rattle.qm_top.proofs.Refusals.{AreSame, not_refused, one_refusal}
 
 -- a fact of the value in an Ok leads to another
@@ -143,19 +146,81 @@ bytes_answered law read nodes status text bytes told still solves =
       refused = λ other why short refusal. refused_text_answered law bytes nodes other status why text refusal (answer short);
     }
 
-complete_answer : OneDecimal → (words : List (List ℕ)) (read : Reading) (status : ℕ) (text : List ℕ) → IsAnswer words read status text → IsDueTo words read status text
-complete_answer law words read status text (misused none unread is line) =
-    record { misused = λ no. (is, line); solve = λ nodes bytes asks told still. absurd (none (Solve nodes) asks) }
-complete_answer law words read status text (solved nodes asks solves) = record {
-  misused = λ no. absurd (no (Solve nodes) asks);
-  solve = λ others bytes also told still.
-      subst (λ n. IsDue bytes n status text) (one_budget words nodes others asks also) (bytes_answered law read nodes status text bytes told still solves);
+-- a text that was made is answered, or memory ran out
+text_made : (number size status : ℕ) (text : List ℕ) → Makes number size status text → IsReport 0 (generated_text number size) status text ⊎ IsNoMemory status text
+text_made number size status text (made is told) = inl (is, told)
+text_made number size status text (no_room_for_text is line) = inr (is, line)
+
+-- a lawful journal has fewer entries than are enough, so a budget of as many isn't spent
+sure_made : (P : Problem) (status : ℕ) (text : List ℕ) → enough P ≤ 1000000 → SolvesMade P status text → ((status ≡ 0) × Summarizes P 1000000 text) ⊎ IsNoMemory status text
+sure_made P status text ample (summed summary is) = inl (is, summary)
+sure_made P status text ample (spent_on entries spends is told) = absurd (ample_problem P 1000000 status text ample (spent entries spends is told) is)
+sure_made P status text ample (no_room_for_answer is line) = inr (is, line)
+
+problem_made : (P : Problem) (status : ℕ) (text : List ℕ) → SolvesMade P status text → IsDueMade P status text
+problem_made P status text solves = record { some = solves; sure = λ ample. sure_made P status text ample solves }
+
+-- What is answered to a command is due to the words, where it is due to this command: words ask for no other.
+due_to : (words : List (List ℕ)) (read : Reading) (status : ℕ) (text : List ℕ) (command : Command) → Asks command words
+    → ((nodes : ℕ) (bytes : List ℕ) → command ≡ Solve nodes → read.before ≡ Some bytes → ¬ Rose read.faults_before read.faults_after → IsDue bytes nodes status text)
+    → ((number size : ℕ) → command ≡ Gen number size → IsReport 0 (generated_text number size) status text ⊎ IsNoMemory status text)
+    → ((number size : ℕ) → command ≡ GenSolve number size → IsDueMade (generated_problem number size) status text)
+    → IsDueTo words read status text
+due_to words read status text command asks solve gen gen_solve = record {
+  misused = λ no. absurd (no command asks);
+  solve = λ nodes bytes also told still. solve nodes bytes (one_command words command (Solve nodes) asks also) told still;
+  gen = λ number size also. gen number size (one_command words command (Gen number size) asks also);
+  gen_solve = λ number size also. gen_solve number size (one_command words command (GenSolve number size) asks also);
 }
 
+solved_due : OneDecimal → (words : List (List ℕ)) (read : Reading) (status : ℕ) (text : List ℕ) (nodes : ℕ) → Asks (Solve nodes) words → Solves read nodes status text → IsDueTo words read status text
+solved_due law words read status text nodes asks solves =
+    due_to words read status text (Solve nodes) asks
+    (λ others bytes is told still. let same : nodes ≡ others = cc in subst (λ n. IsDue bytes n status text) same (bytes_answered law read nodes status text bytes told still solves))
+    (λ number size is. cc)
+    (λ number size is. cc)
+
+made_due : (words : List (List ℕ)) (read : Reading) (status : ℕ) (text : List ℕ) (number size : ℕ) → Asks (Gen number size) words → Makes number size status text → IsDueTo words read status text
+made_due words read status text number size asks makes =
+    due_to words read status text (Gen number size) asks
+    (λ nodes bytes is told still. cc)
+    (λ other another is.
+    let numbers : number ≡ other = cc in
+    let sizes : size ≡ another = cc in
+    text_made other another status text (subst (λ n. Makes other n status text) sizes (subst (λ n. Makes n size status text) numbers makes)))
+    (λ other another is. cc)
+
+made_and_solved_due : (words : List (List ℕ)) (read : Reading) (status : ℕ) (text : List ℕ) (number size : ℕ) → Asks (GenSolve number size) words
+    → SolvesMade (generated_problem number size) status text → IsDueTo words read status text
+made_and_solved_due words read status text number size asks solves =
+    due_to words read status text (GenSolve number size) asks
+    (λ nodes bytes is told still. cc)
+    (λ other another is. cc)
+    (λ other another is.
+    let numbers : number ≡ other = cc in
+    let sizes : size ≡ another = cc in
+    let same : generated_problem number size ≡ generated_problem other another = ap (λ n. generated_problem n size) numbers ∙ ap (λ n. generated_problem other n) sizes in
+    problem_made (generated_problem other another) status text (subst (λ P. SolvesMade P status text) same solves))
+
+complete_answer : OneDecimal → (words : List (List ℕ)) (read : Readings) (status : ℕ) (text : List ℕ) → IsAnswer words read status text → IsDueTo words read.problem status text
+complete_answer law words read status text (misused none unread is line) = record {
+  misused = λ no. (is, line);
+  solve = λ nodes bytes asks told still. absurd (none (Solve nodes) asks);
+  gen = λ number size asks. absurd (none (Gen number size) asks);
+  gen_solve = λ number size asks. absurd (none (GenSolve number size) asks);
+}
+complete_answer law words read status text (solved nodes asks others solves) = solved_due law words read.problem status text nodes asks solves
+complete_answer law words read status text (generated number size asks unread makes) = made_due words read.problem status text number size asks makes
+complete_answer law words read status text (made_and_solved number size asks unread solves) = made_and_solved_due words read.problem status text number size asks solves
+
+-- a source that wasn't read, by what it told before
+abbrev pub unread : Option (List ℕ) → ℕ → Reading
+unread before faults = reading before before faults faults
+
 -- the sink took the text of a report
-pub complete_report : OneDecimal → (before after : Option (List ℕ)) (words : List (List ℕ)) (read : Reading) (status due : ℕ) (text : List ℕ)
+pub complete_report : OneDecimal → (before after : Option (List ℕ)) (words : List (List ℕ)) (read : Readings) (status due : ℕ) (text : List ℕ)
     → IsAnswer words read due text → status ≡ due → Appends before after text
-    → (taken : List ℕ) × Appends before after taken × IsDueTo words read status taken
+    → (taken : List ℕ) × Appends before after taken × IsDueTo words read.problem status taken
 complete_report law before after words read status due text answer is taken =
     (text, taken, complete_answer law words read status text (subst (λ n. IsAnswer words read n text) (sym is) answer))
 
@@ -174,7 +239,7 @@ pub refused_beyond : (bytes : List ℕ) (tokens : List Token) (ast : Ast) (fault
 refused_beyond bytes tokens ast fault cut parsed given status text tells = beyond tokens ast fault cut parsed (told_form ast fault status text given tells) tells
 
 -- what bytes come to, where they are lent
-lent : (bytes others : List ℕ) (told case : Stated) → others ≡ bytes → told ≡ case → IsStated others told → IsStated bytes case
+pub lent : (bytes others : List ℕ) (told case : Stated) → others ≡ bytes → told ≡ case → IsStated others told → IsStated bytes case
 lent bytes others told case same is states = subst (λ t. IsStated bytes t) is (subst (λ bs. IsStated bs told) same states)
 
 -- what is answered about bytes, by what they come to

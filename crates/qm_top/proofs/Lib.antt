@@ -1,6 +1,7 @@
-pub mod TwoWords
-pub mod Budgets
-pub mod OneBudget
+pub mod FrontWords
+pub mod Asking
+pub mod SpeltNumbers
+pub mod OneCommand
 pub mod Underway
 pub mod OneCertificate
 pub mod Refusals

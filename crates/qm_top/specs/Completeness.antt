@@ -1,12 +1,13 @@
--- Which answer can come for which input, where the problem's source tells its bytes and doesn't fail.
+-- Which answer can come for which words and input, where a source that is read tells its bytes and doesn't fail.
 use Rattle.std.specs.Prelude.{◌≡◌, ◌≢◌, ◌⊎◌, ◌<◌, ◌≤◌, ℕ, List, Some, codes, length}
 use Rattle.qm_io.specs.Causes.{Rose}
+use Rattle.qm_gen.specs.Generated.{generated_problem, generated_text}
 use Rattle.qm_journal.specs.Enough.{enough}
 use Rattle.qm_model.specs.declared.game.Problem.{Problem}
 use Rattle.qm_normal.specs.Stated.{States}
 use Rattle.qm_top.specs.declared.command.Command.{Command}
-use Rattle.qm_top.specs.declared.command.Command.TheVariants.{Solve}
-use Rattle.qm_top.specs.Answers.{Claims, Reading, SolvesProblem}
+use Rattle.qm_top.specs.declared.command.Command.TheVariants.{Gen, GenSolve, Solve}
+use Rattle.qm_top.specs.Answers.{Claims, Reading, SolvesMade, SolvesProblem, Summarizes}
 use Rattle.qm_top.specs.Lines.{line, usage}
 use Rattle.qm_top.specs.Refusals.{Refuses}
 use Rattle.qm_top.specs.Words.{Asks}
@@ -32,7 +33,16 @@ pub record IsDue (bytes : List ℕ) (nodes status : ℕ) (text : List ℕ) : Typ
   pub sure : (P : Problem) → length bytes ≤ 4194304 → States bytes P → P.wholes ≡ length P.vars → enough P ≤ nodes → ((status ≡ 0) × Claims P text) ⊎ IsNoMemory status text
   pub refused : (due : ℕ) (told : List ℕ) → length bytes ≤ 4194304 → Refuses bytes due told → IsReport due told status text ⊎ IsNoMemory status text
 
--- the same by the words; where they are no form, the source tells nothing about the answer
+-- What `gen --solve` answers about the problem that it made: its text states it, and it has no continuous variables, so
+-- it is never refused and no number leaves.
+pub record IsDueMade (P : Problem) (status : ℕ) (text : List ℕ) : Type 0 where
+  pub some : SolvesMade P status text
+  -- where the budget is enough for every lawful journal, it isn't spent
+  pub sure : enough P ≤ 1000000 → ((status ≡ 0) × Summarizes P 1000000 text) ⊎ IsNoMemory status text
+
+-- the same by the words; where they are no form, or a problem is made, the source tells nothing about the answer
 pub record IsDueTo (words : List (List ℕ)) (problem : Reading) (status : ℕ) (text : List ℕ) : Type 0 where
   pub misused : ((command : Command) → ¬ Asks command words) → IsReport 2 usage status text
   pub solve : (nodes : ℕ) (bytes : List ℕ) → Asks (Solve nodes) words → problem.before ≡ Some bytes → ¬ Rose problem.faults_before problem.faults_after → IsDue bytes nodes status text
+  pub gen : (number size : ℕ) → Asks (Gen number size) words → IsReport 0 (generated_text number size) status text ⊎ IsNoMemory status text
+  pub gen_solve : (number size : ℕ) → Asks (GenSolve number size) words → IsDueMade (generated_problem number size) status text

@@ -7,5 +7,6 @@ pub mod Report
 pub mod Stating
 pub mod LeaveLines
 pub mod SpentLines
+pub mod SummaryLines
 pub mod Answers
 pub mod Completeness

@@ -1,7 +1,7 @@
 -- The status and the text of a report.
 use Rattle.std.specs.Prelude.{ℕ, List, codes}
 use Rattle.qm_top.specs.declared.report.Report.{Report}
-use Rattle.qm_top.specs.declared.report.Report.TheVariants.{Usage, ReadProblem, Text, Long, Limit, Leaves, Spent, Memory, Certificate}
+use Rattle.qm_top.specs.declared.report.Report.TheVariants.{Usage, ReadProblem, Text, Long, Limit, Leaves, Spent, Memory, Certificate, Made, Summary}
 use Rattle.qm_top.specs.Lines.{line, usage}
 use Rattle.qm_top.specs.SpentLines.{spent_text}
 
@@ -15,6 +15,8 @@ status_of (Leaves at) = 7
 status_of (Spent journal) = 8
 status_of Memory = 10
 status_of (Certificate text) = 0
+status_of (Made text) = 0
+status_of (Summary text) = 0
 
 abbrev pub text_of : Report → List ℕ
 text_of Usage = usage
@@ -26,3 +28,5 @@ text_of (Leaves at) = at
 text_of (Spent journal) = spent_text journal.entries
 text_of Memory = line (codes "memory")
 text_of (Certificate text) = text
+text_of (Made text) = text
+text_of (Summary text) = text

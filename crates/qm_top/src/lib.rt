@@ -15,12 +15,14 @@ mod command;
 mod fault_lines;
 mod laws;
 mod leave_lines;
+mod made;
 mod piece;
 mod refusal;
 mod report;
 mod solve;
 mod spent_lines;
 mod stated;
+mod summary_lines;
 mod top;
 
 pub use laws::{a_printed_text_has_one_certificate, stated_or_refused};

@@ -29,6 +29,10 @@ pub enum Report {
     Memory,
     /// The ending, as the text of its certificate.
     Certificate(List<u8>),
+    /// The text of a problem that was made.
+    Made(List<u8>),
+    /// How that problem ends, in three lines.
+    Summary(List<u8>),
 }
 
 impl Report {
@@ -46,6 +50,8 @@ impl Report {
             Report::Spent(_) => 8,
             Report::Memory => 10,
             Report::Certificate(_) => 0,
+            Report::Made(_) => 0,
+            Report::Summary(_) => 0,
         }
     }
 
@@ -56,7 +62,10 @@ impl Report {
         ensures cause { HasCause (O.faults out.old) (O.faults out.new) result }
     {
         match self {
-            Report::Usage => write_all(out, b"usage: qyas solve FILE [--nodes N]\n"),
+            Report::Usage => write_all(
+                out,
+                b"usage: qyas solve FILE [--nodes N] | gen NUMBER SIZE [--solve]\n",
+            ),
             Report::ReadProblem => write_all(out, b"read problem\n"),
             Report::Text(why) => write_all(out, why.as_slice()),
             Report::Long => write_all(out, b"limit problem\n"),
@@ -65,6 +74,8 @@ impl Report {
             Report::Spent(journal) => write_spent(journal.entries(), out),
             Report::Memory => write_all(out, b"memory\n"),
             Report::Certificate(text) => write_all(out, text.as_slice()),
+            Report::Made(text) => write_all(out, text.as_slice()),
+            Report::Summary(text) => write_all(out, text.as_slice()),
         }
     }
 }

@@ -1,13 +1,14 @@
 ghost use Rattle.std.specs.Prelude.{◌≡◌, ◌≢◌, ◌≤◌, ℕ, List, map, string_bytes};
 ghost use Rattle.std.specs.Io.KnownBytes.{Appends};
 ghost use Rattle.qm_io.specs.Causes.{Rose};
-ghost use Rattle.qm_top.specs.declared.command.Command.{Command};
-ghost use Rattle.qm_top.specs.Answers.{Failed, IsAnswer, Took, reading};
+ghost use Rattle.qm_top.specs.declared.command.Command.TheVariants.{Solve};
+ghost use Rattle.qm_top.specs.Answers.{Failed, IsAnswer, IsUnread, Reading, Took, reading, readings};
 ghost use Rattle.qm_top.specs.Completeness.{IsDueTo};
 ghost use Rattle.qm_top.specs.Report.{status_of, text_of};
 ghost use Rattle.qm_top.specs.Words.{Asks};
 
-use crate::command::command_of;
+use crate::command::{Command, command_of};
+use crate::made::{make, make_and_solve};
 use crate::report::Report;
 use crate::solve::solve;
 use qm_io::{Sink, Source};
@@ -19,13 +20,17 @@ const WRITE: u8 = 4;
 
 /// What is answered to the words, with the problem's source at hand.
 fn answer<P: Source>(alloc: Global, words: &[String], problem: &mut P) -> Report
-    ensures unread { ((command : Command) → ¬ Asks command (map string_bytes words.now)) → problem.new ≡ problem.old }
+    ensures unread { ((nodes : ℕ) → ¬ Asks (Solve nodes) (map string_bytes words.now)) → problem.new ≡ problem.old }
     ensures later { P.faults problem.old ≤ P.faults problem.new }
-    ensures answer { IsAnswer (map string_bytes words.now) (reading (P.rest problem.old) (P.rest problem.new) (P.faults problem.old) (P.faults problem.new)) (status_of result) (text_of result) }
+    // whatever else there is to read
+    ensures answer { (certificate moves : Reading) → IsUnread certificate → IsUnread moves → IsAnswer (map string_bytes words.now)
+        (readings (reading (P.rest problem.old) (P.rest problem.new) (P.faults problem.old) (P.faults problem.new)) certificate moves) (status_of result) (text_of result) }
 {
     match command_of(words) {
         None => Report::Usage,
-        Some(command) => solve(alloc, problem, command.nodes()),
+        Some(Command::Solve { nodes }) => solve(alloc, problem, nodes),
+        Some(Command::Gen { number, size }) => make(alloc, number, size),
+        Some(Command::GenSolve { number, size }) => make_and_solve(alloc, number, size),
     }
 }
 
@@ -40,11 +45,15 @@ pub fn run<P: Source, C: Source, M: Source, O: Sink>(
     out: &mut O,
 ) -> u8
     // The sink took exactly the text that goes with the status, unless it failed.
-    ensures answered { result ≢ 4 → Took (O.taken out.old) (O.taken out.new)
-        (map string_bytes words.now) (reading (P.rest problem.old) (P.rest problem.new) (P.faults problem.old) (P.faults problem.new)) result }
+    ensures answered { result ≢ 4 → Took (O.taken out.old) (O.taken out.new) (map string_bytes words.now)
+        (readings (reading (P.rest problem.old) (P.rest problem.new) (P.faults problem.old) (P.faults problem.new))
+        (reading (C.rest certificate.old) (C.rest certificate.new) (C.faults certificate.old) (C.faults certificate.new))
+        (reading (M.rest moves.old) (M.rest moves.new) (M.faults moves.old) (M.faults moves.new))) result }
     // It failed, and took a part of what was to be written.
-    ensures failed { result ≡ 4 → Failed (O.taken out.old) (O.taken out.new) (O.faults out.old) (O.faults out.new)
-        (map string_bytes words.now) (reading (P.rest problem.old) (P.rest problem.new) (P.faults problem.old) (P.faults problem.new)) }
+    ensures failed { result ≡ 4 → Failed (O.taken out.old) (O.taken out.new) (O.faults out.old) (O.faults out.new) (map string_bytes words.now)
+        (readings (reading (P.rest problem.old) (P.rest problem.new) (P.faults problem.old) (P.faults problem.new))
+        (reading (C.rest certificate.old) (C.rest certificate.new) (C.faults certificate.old) (C.faults certificate.new))
+        (reading (M.rest moves.old) (M.rest moves.new) (M.faults moves.old) (M.faults moves.new))) }
     // Which of these comes is decided by the words and the bytes, but for want of memory.
     ensures complete { ¬ Rose (O.faults out.old) (O.faults out.new) → (text : List ℕ) × Appends (O.taken out.old) (O.taken out.new) text
         × IsDueTo (map string_bytes words.now) (reading (P.rest problem.old) (P.rest problem.new) (P.faults problem.old) (P.faults problem.new)) result text }
@@ -54,7 +63,7 @@ pub fn run<P: Source, C: Source, M: Source, O: Sink>(
     ensures write_faults { O.faults out.old ≤ O.faults out.new }
 
     // What the command doesn't use stays as it was.
-    ensures problem { ((command : Command) → ¬ Asks command (map string_bytes words.now)) → problem.new ≡ problem.old }
+    ensures problem { ((nodes : ℕ) → ¬ Asks (Solve nodes) (map string_bytes words.now)) → problem.new ≡ problem.old }
     ensures certificate { certificate.new ≡ certificate.old }
     ensures moves { moves.new ≡ moves.old }
 {

@@ -1,29 +1,23 @@
-use Rattle.std.proofs.Common.{◌≡◌, ◌∷◌, drop, map, string_bytes, sym, ap, ◌∙◌}
-use Rattle.std.specs.Prelude.{codes}
+use Rattle.std.proofs.Common.{◌≡◌, ◌∷◌, drop, map, string_bytes, sym, ap, subst, ◌∙◌}
+use Rattle.std.specs.Prelude.{IfSome, codes}
 use Rattle.std.proofs.lemmas.Slice.Eq.{bytes_eq-Decides}
 use Rattle.std.proofs.lemmas.Bool.Decides.{Decides-at}
-use Rattle.qm_top.proofs.TwoWords.{asks_nothing, front_words, not_empty, words_behind}
+use Rattle.qm_top.specs.Words.{Asks}
+use Rattle.qm_top.proofs.FrontWords.{first_word, words_behind}
 use Rattle.qm_top.proofs.command.command_of.Goals as goal
 
-pub returns-in_err-nodes-in-len2-up-clause-none : goal.returns-in_err-nodes-in-len2-up-clause-none
-returns-in_err-nodes-in-len2-up-clause-none c =
-    let command = c.command-item.result in
-    let file = c.file-item.result in
-    let words = front_words c.args.words.now command file c.in-len2-up.len_at_least c.command-item.is c.file-item.is in
-    let none = rw (words_behind c.args.words.now) at c.in_err-nodes-in-len2-up.ensures.none in
-    rw c.from_residual.ensures (asks_nothing _ (string_bytes command) (string_bytes file) (map string_bytes (drop 2 c.args.words.now)) words none)
+pub returns-then-eq-clause-some : goal.returns-then-eq-clause-some
+returns-then-eq-clause-some c =
+    let behind = map string_bytes (drop 1 c.args.words.now) in
+    let words = first_word c.args.words.now c.command-item.result c.in-len1-up.len_at_least c.command-item.is in
+    let named : c.as_str.result.now ≡ codes "solve" = (Decides-at _ _ c.eq.ensures (bytes_eq-Decides c.as_str.result.now (codes "solve"))).0 c.if-eq.true in
+    let whole = words ∙ ap (λ t. t ∷ behind) (sym c.as_str.ensures.value ∙ named) in
+    subst (λ ws. IfSome c.solve_of.result (λ command. Asks command ws)) (sym whole) (rw (words_behind c.args.words.now) at c.solve_of.ensures.some)
 
-pub returns-in_ok-nodes-in-len2-up-clause-some : goal.returns-in_ok-nodes-in-len2-up-clause-some
-returns-in_ok-nodes-in-len2-up-clause-some c =
-    let command = c.command-item.result in
-    let file = c.file-item.result in
-    let behind = map string_bytes (drop 2 c.args.words.now) in
-    let words = front_words c.args.words.now command file c.in-len2-up.len_at_least c.command-item.is c.file-item.is in
-    let solve : c.as_str.result.now ≡ codes "solve" = (Decides-at _ _ c.eq.ensures (bytes_eq-Decides c.as_str.result.now (codes "solve"))).0 c.if-eq.true in
-    let asks = rw (words_behind c.args.words.now) at c.in_ok-nodes-in-len2-up.ensures.some in (
-      string_bytes file,
-      behind,
-      not_empty (c.as_str-then-eq.result.now) (string_bytes file) c.if-not-is_empty.ensures c.as_str-then-eq.ensures.value,
-      words ∙ ap (λ t. t ∷ string_bytes file ∷ behind) (sym c.as_str.ensures.value ∙ solve),
-      asks,
-    )
+pub returns-then-eq-2-clause-some : goal.returns-then-eq-2-clause-some
+returns-then-eq-2-clause-some c =
+    let behind = map string_bytes (drop 1 c.args.words.now) in
+    let words = first_word c.args.words.now c.command-item.result c.in-len1-up.len_at_least c.command-item.is in
+    let named : c.as_str-else-eq.result.now ≡ codes "gen" = (Decides-at _ _ c.eq-else-eq.ensures (bytes_eq-Decides c.as_str-else-eq.result.now (codes "gen"))).0 c.if-eq-2.true in
+    let whole = words ∙ ap (λ t. t ∷ behind) (sym c.as_str-else-eq.ensures.value ∙ named) in
+    subst (λ ws. IfSome c.gen_of.result (λ command. Asks command ws)) (sym whole) (rw (words_behind c.args.words.now) at c.gen_of.ensures.some)

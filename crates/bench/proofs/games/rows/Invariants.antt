@@ -1,6 +1,0 @@
-use Rattle.std.proofs.Common.{◌≡◌, length, All}
-use Rattle.bench.specs.Games.{IsPlainRow}
-use Rattle.bench.proofs.games.rows.Given as goal
-
-abbrev pub invariant-loop : goal.invariant-loop
-invariant-loop l = record { many : length l.rows ≡ l.counter; plain : All IsPlainRow l.rows }

@@ -1,6 +1,0 @@
-use Rattle.std.proofs.Common.{◌+◌}
-use Rattle.bench.proofs.PlainGames.{AreTerms}
-use Rattle.bench.proofs.legality.budget.Given as goal
-
-abbrev pub invariant-loop-number : goal.invariant-loop-number
-invariant-loop-number l = AreTerms (l.first + l.number) l.number l.terms.items

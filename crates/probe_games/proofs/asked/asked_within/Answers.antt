@@ -1,5 +1,0 @@
-use Rattle.qm_legal.proofs.WholeBoxes.{first_question}
-use Rattle.probe_games.proofs.asked.asked_within.Goals as goal
-
-pub legal-answer-requires-clause-new : goal.legal-answer-requires-clause-new
-legal-answer-requires-clause-new c = rw c.new-journal.ensures (first_question c.args.game.now)

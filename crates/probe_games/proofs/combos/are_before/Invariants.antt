@@ -1,7 +1,0 @@
-use Rattle.std.proofs.Common.{take}
-use Rattle.std.specs.Prelude.{All}
-use Rattle.qm_trees.specs.Entries.{IsBefore}
-use Rattle.probe_games.proofs.combos.are_before.Given as goal
-
-abbrev pub invariant-loop-entry : goal.invariant-loop-entry
-invariant-loop-entry l = All (λ e. IsBefore e.row l.row) (take l.entry-index l.entries)

@@ -1,0 +1,4 @@
+pub mod FirstQuestions
+pub mod SetBoxes
+pub mod Chains
+pub mod Completed
