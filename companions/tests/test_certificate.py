@@ -125,10 +125,11 @@ class CertificateTest(unittest.TestCase):
         self.assertEqual(moves[-1], "value 0")
 
     def test_equal_subtrees_are_one(self) -> None:
-        policy = support.solved(support.example("fleet")).certificate.policy
-        while not isinstance(policy, Answer):
-            assert isinstance(policy, Choose)
-            policy = policy.below
+        problem = game.Game(text.read(b"MAXIMIZE x\nSUBJECT TO\nBINARIES x u\nALL u\nORDER u x\nEND\n"))
+        below = b"choose 1\nleaf\n"
+        data = b"optimal 1\ncertificate 1\nlegal 0\npolicy\nanswer 2\nrange 0 0\n" + below + b"range 1 1\n" + below
+        policy = read(problem, data + b"refute\npick 0\nclose o\nend\n").policy
+        assert isinstance(policy, Answer)
         self.assertIs(policy.parts[0].below, policy.parts[1].below)
 
 
