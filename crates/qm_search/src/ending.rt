@@ -9,6 +9,7 @@ ghost use Rattle.qm_search.specs.RootSteps.{IsFirst, IsInside, IsPlayed, all_val
 ghost use Rattle.qm_search.specs.StopSteps.{IsRightStop};
 
 use crate::fault::{SearchFault, Solved};
+use crate::guides::Guides;
 use crate::judge::{Judged, judge};
 use crate::outcome::Outcome;
 use crate::state::Search;
@@ -65,7 +66,17 @@ fn root_outcome(
     match judge(alloc, here, &search.bx, &None, &all_values())? {
         Judged::Known(outcome) => Ok(outcome),
         Judged::Open(best) => {
-            let outcome = visit(alloc, here, search, 0, play, &best, &all_values());
+            let mut guides = Guides::new(alloc, game)?;
+            let outcome = visit(
+                alloc,
+                here,
+                search,
+                &mut guides,
+                0,
+                play,
+                &best,
+                &all_values(),
+            );
             let _entries = search.journal.entries();
             outcome
         }

@@ -13,8 +13,8 @@
 //! (`closings`), where all whole variables are set it is a leaf (`leaf`, `mixed`, `leaf_run`, `played`), else its relaxation
 //! may close it. An existential variable goes to the best of its values (`choices`), and each has to be better than the
 //! best before; a universal one to the worst of its legal values (`answers`, `answer`, `legality`), and each has to be
-//! worse than the worst before. Where a visit begins is free (`start`): with the value of the relaxation's best point, or
-//! with the universal player's highest one. The policy of one value answers all where it is tested to hold for all
+//! worse than the worst before. Where a visit begins is free (`start`, `guides`): with the value of the relaxation's best
+//! point, or with the one by which the universal player ended a visit at this depth last, or the highest. The policy of one value answers all where it is tested to hold for all
 //! (`everywhere`). A best point is lent on, and where it lies in a later box, that needs no relaxation of its own. So is
 //! the universal player's known completion, so that only a newly found one is a list of its own. `specs/*Steps.antt` define what these steps promise one another; no public clause cites them.
 #![tactic(auto)]
@@ -26,6 +26,7 @@ mod closings;
 mod ending;
 mod everywhere;
 mod fault;
+mod guides;
 mod judge;
 mod leaf;
 mod leaf_run;

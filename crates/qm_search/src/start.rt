@@ -19,7 +19,7 @@ fn nearest(value: Frac) -> i128 {
 }
 
 /// The value of the range that is nearest to this number.
-fn nearest_in(range: Range, near: i128) -> i64
+pub fn nearest_in(range: Range, near: i128) -> i64
     ensures { IsStart range result }
 {
     if range.high <= range.low || near <= range.low as i128 {

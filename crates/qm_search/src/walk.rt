@@ -17,10 +17,11 @@ use crate::answer::{Answer, Reply, legal_answer};
 use crate::answers::{Answered, Answers};
 use crate::choices::{Choices, Tried};
 use crate::everywhere::settled;
+use crate::guides::Guides;
 use crate::judge::{Judged, judge};
 use crate::legality::{is_known, later_values, legality, list_of};
 use crate::outcome::Outcome;
-use crate::start::{highest, latest, likeliest};
+use crate::start::{latest, likeliest};
 use crate::state::Search;
 use crate::stop::Stop;
 use crate::window::Window;
@@ -38,6 +39,7 @@ pub fn visit(
     alloc: Global,
     here: Place<'_>,
     search: &mut Search,
+    guides: &mut Guides,
     entry: u32,
     completion: &[i64],
     point: &Option<BestPoint>,
@@ -52,9 +54,13 @@ pub fn visit(
     ensures moved { Moved here.entry.game.now (WentBelow entry) search.old search.new }
 {
     if is_for_all(&here.rest[0]) {
-        worst_answer(alloc, here, search, entry, completion, point, window)
+        worst_answer(
+            alloc, here, search, guides, entry, completion, point, window,
+        )
     } else {
-        best_choice(alloc, here, search, entry, completion, point, window)
+        best_choice(
+            alloc, here, search, guides, entry, completion, point, window,
+        )
     }
 }
 
@@ -64,6 +70,7 @@ fn enter(
     alloc: Global,
     here: Place<'_>,
     search: &mut Search,
+    guides: &mut Guides,
     entry: u32,
     value: i64,
     completion: &[i64],
@@ -85,6 +92,7 @@ fn enter(
                 alloc,
                 here,
                 search,
+                guides,
                 entered,
                 completion,
                 latest(&bound, point),
@@ -100,6 +108,7 @@ fn child(
     alloc: Global,
     here: Place<'_>,
     search: &mut Search,
+    guides: &mut Guides,
     entry: u32,
     value: i64,
     completion: &[i64],
@@ -121,6 +130,7 @@ fn child(
         alloc,
         here.behind(),
         search,
+        guides,
         entry,
         value,
         completion,
@@ -137,6 +147,7 @@ fn choices_in(
     alloc: Global,
     here: Place<'_>,
     search: &mut Search,
+    guides: &mut Guides,
     entry: u32,
     values: Range,
     completion: &[i64],
@@ -155,7 +166,7 @@ fn choices_in(
     for choice in values.low..=values.high {
         let within = choices.window(window);
         let next = child(
-            alloc, here, search, entry, choice, completion, point, &within,
+            alloc, here, search, guides, entry, choice, completion, point, &within,
         )?;
         match choices.with(alloc, choice, next)? {
             Tried::More(more) => choices = more,
@@ -171,6 +182,7 @@ fn best_before(
     alloc: Global,
     here: Place<'_>,
     search: &mut Search,
+    guides: &mut Guides,
     entry: u32,
     start: i64,
     later: Choices,
@@ -198,7 +210,7 @@ fn best_before(
         high: start - 1,
     };
     match choices_in(
-        alloc, here, search, entry, values, completion, point, &within,
+        alloc, here, search, guides, entry, values, completion, point, &within,
     )? {
         Tried::Enough { value, policy } => Ok(Outcome::Over { value, policy }),
         Tried::More(choices) => Ok(choices.before(later)?.outcome(alloc)?),
@@ -212,6 +224,7 @@ fn best_choice(
     alloc: Global,
     here: Place<'_>,
     search: &mut Search,
+    guides: &mut Guides,
     entry: u32,
     completion: &[i64],
     point: &Option<BestPoint>,
@@ -232,11 +245,11 @@ fn best_choice(
         high: covered.high,
     };
     match choices_in(
-        alloc, here, search, entry, values, completion, point, window,
+        alloc, here, search, guides, entry, values, completion, point, window,
     )? {
         Tried::Enough { value, policy } => Ok(Outcome::Over { value, policy }),
         Tried::More(choices) => best_before(
-            alloc, here, search, entry, start, choices, completion, point, window,
+            alloc, here, search, guides, entry, start, choices, completion, point, window,
         ),
     }
 }
@@ -247,6 +260,7 @@ fn answer_to(
     alloc: Global,
     here: Place<'_>,
     search: &mut Search,
+    guides: &mut Guides,
     entry: u32,
     value: i64,
     completion: &[i64],
@@ -264,14 +278,18 @@ fn answer_to(
 {
     if is_known(here.game, completion, value) {
         let later = later_values(completion);
-        let outcome = child(alloc, here, search, entry, value, later, point, window)?;
+        let outcome = child(
+            alloc, here, search, guides, entry, value, later, point, window,
+        )?;
         return Ok(legal_answer(alloc, value, list_of(alloc, later)?, outcome)?);
     }
     match legality(alloc, here, search, entry, value)? {
         Legality::Illegal(tree) => Ok(Answer::Kept(Reply::Illegal(tree))),
         Legality::Completion(values) => {
             let later = values.as_slice();
-            let outcome = child(alloc, here, search, entry, value, later, point, window)?;
+            let outcome = child(
+                alloc, here, search, guides, entry, value, later, point, window,
+            )?;
             Ok(legal_answer(alloc, value, values, outcome)?)
         }
     }
@@ -283,6 +301,7 @@ fn answers_in(
     alloc: Global,
     here: Place<'_>,
     search: &mut Search,
+    guides: &mut Guides,
     entry: u32,
     values: Range,
     completion: &[i64],
@@ -301,10 +320,13 @@ fn answers_in(
     for value in values.low..=values.high {
         let within = answers.window(window);
         let answer = answer_to(
-            alloc, here, search, entry, value, completion, point, &within,
+            alloc, here, search, guides, entry, value, completion, point, &within,
         )?;
         match settled(alloc, here, &mut search.bx, &within, answer)? {
-            Answer::Ended(outcome) => return Ok(Answered::Enough(answers.widened(outcome))),
+            Answer::Ended(outcome) => {
+                guides.note(here.depth, value);
+                return Ok(Answered::Enough(answers.widened(outcome)));
+            }
             Answer::Kept(reply) => answers = answers.with(value, reply)?,
         }
     }
@@ -317,6 +339,7 @@ fn worst_before(
     alloc: Global,
     here: Place<'_>,
     search: &mut Search,
+    guides: &mut Guides,
     entry: u32,
     start: i64,
     later: Answers,
@@ -344,20 +367,21 @@ fn worst_before(
         high: start - 1,
     };
     match answers_in(
-        alloc, here, search, entry, values, completion, point, &within,
+        alloc, here, search, guides, entry, values, completion, point, &within,
     )? {
         Answered::Enough(outcome) => Ok(later.widened(outcome)),
         Answered::More(answers) => Ok(answers.before(later)?.outcome(window.cap)),
     }
 }
 
-/// The worst that the universal player can do, the highest value first; the first value against which the floor can't be
+/// The worst that the universal player can do, the likeliest value and those above it first; the first value against which the floor can't be
 /// reached is enough.
 #[cycle(search)]
 fn worst_answer(
     alloc: Global,
     here: Place<'_>,
     search: &mut Search,
+    guides: &mut Guides,
     entry: u32,
     completion: &[i64],
     point: &Option<BestPoint>,
@@ -372,17 +396,17 @@ fn worst_answer(
     ensures moved { Moved here.entry.game.now (WentBelow entry) search.old search.new }
 {
     let covered = here.range(&search.bx);
-    let start = highest(covered);
+    let start = guides.start(covered, here.depth);
     let values = Range {
         low: start,
         high: covered.high,
     };
     match answers_in(
-        alloc, here, search, entry, values, completion, point, window,
+        alloc, here, search, guides, entry, values, completion, point, window,
     )? {
         Answered::Enough(outcome) => Ok(outcome),
         Answered::More(answers) => worst_before(
-            alloc, here, search, entry, start, answers, completion, point, window,
+            alloc, here, search, guides, entry, start, answers, completion, point, window,
         ),
     }
 }

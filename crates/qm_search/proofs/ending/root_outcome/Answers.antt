@@ -12,3 +12,6 @@ returns-in_err-outcome-clause-journal c = root_within c.args.game.now c.args.sea
 
 pub returns-in-Known-clause-journal : goal.returns-in-Known-clause-journal
 returns-in-Known-clause-journal c = root_within c.args.game.now c.args.search.now c.args.play.now c.requires.place c.entries-entries.ensures.within
+
+pub returns-in_err-guides-in-Open-clause-journal : goal.returns-in_err-guides-in-Open-clause-journal
+returns-in_err-guides-in-Open-clause-journal c = root_within c.args.game.now c.args.search.now c.args.play.now c.requires.place c.entries-entries.ensures.within
