@@ -6,9 +6,9 @@ use Rattle.std.proofs.lemmas.List.{get_or_append_left, length-take-le}
 use Rattle.std.proofs.lemmas.List.Elements.{All-push, All-weaker}
 use Rattle.qm_model.specs.declared.game.Problem.{Problem}
 use Rattle.qm_journal.specs.declared.entry.JEntry.{JEntry}
-use Rattle.qm_journal.specs.declared.entry.JKind.TheVariants.{Game, Query}
+use Rattle.qm_journal.specs.declared.entry.JKind.TheVariants.{Game}
 use Rattle.qm_journal.specs.Lawful.{IsLawful, IsLawfulWith, IsNext, IsOpen, IsUniversalTurn}
-use Rattle.qm_journal.specs.Positions.{IsOfKind, IsParent, Position, next_position, position_of}
+use Rattle.qm_journal.specs.Positions.{IsOfKind, Position, next_position, position_of}
 use Rattle.qm_journal.specs.Questions.{IsNewQuestion, WentOn, query_entry}
 use Rattle.qm_journal.proofs.Answering.{game-stays}
 use Rattle.qm_journal.proofs.Entries.{nowhere}

@@ -1,5 +1,5 @@
 -- Runs through the values of a variable, from a start on and then those before it.
-use Rattle.std.proofs.Common.{◌≡◌, ℕ, List, [], arith, subst, ℤ, pos, ◌+ℤ◌, ◌-ℤ◌, ◌≤ℤ◌, ◌<ℤ◌}
+use Rattle.std.proofs.Common.{◌≡◌, arith, ℤ, pos, ◌-ℤ◌, ◌≤ℤ◌, ◌<ℤ◌}
 use Rattle.std.proofs.lemmas.Int.{ints}
 use Rattle.qm_model.specs.declared.range.Range.{Range}
 use Rattle.qm_search.specs.PartSteps.{IsPast, IsStart}

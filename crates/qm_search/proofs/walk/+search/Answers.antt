@@ -1,4 +1,4 @@
-use Rattle.std.proofs.Common.{rules, refl, sym, ◌≡◌, ◌+◌, arith, ap, drop, length, subst, pos, ◌+ℤ◌, ◌-ℤ◌, ◌≤ℤ◌, ◌<ℤ◌, to_z, set, [], ℤ, List, ◌∙◌}
+use Rattle.std.proofs.Common.{rules, refl, sym, ◌≡◌, ◌+◌, arith, ap, drop, length, subst, pos, ◌+ℤ◌, ◌-ℤ◌, ◌≤ℤ◌, ◌<ℤ◌, to_z, set, [], ◌∙◌}
 use Rattle.std.proofs.lemmas.Int.{ints, to_z-of_z}
 use Rattle.std.proofs.lemmas.List.{length-drop}
 use mir.Syntax.{w64}
@@ -15,10 +15,9 @@ use Rattle.qm_journal.specs.Contents.{Contents}
 use Rattle.qm_search.specs.AnswerSteps.{AreAllAnswered, AreAnswered, AreAnswers, IsRightAnswer, answer_window}
 use Rattle.qm_search.specs.ChoiceSteps.{AreAllTried, AreChoices, AreTried, IsTrial, choice_window}
 use Rattle.qm_search.specs.JudgeSteps.{IsJudged}
-use Rattle.qm_search.specs.OutcomeSteps.{IsAbove, IsOutcome}
 use Rattle.qm_search.specs.PartSteps.{IsStart}
 use Rattle.qm_search.specs.PlaceSteps.{IsSearchPlace, next_value}
-use Rattle.qm_search.specs.VisitSteps.{Moved, WentAmong, WentBelow}
+use Rattle.qm_search.specs.VisitSteps.{Moved, WentAmong}
 use Rattle.qm_search.proofs.AnswerLaws.{answer_window_proper, some_answered}
 use Rattle.qm_search.proofs.ChoiceLaws.{choice_window_proper}
 use Rattle.qm_search.proofs.Completions.{begins_here, completes_answer, completes_choice}
