@@ -17,13 +17,17 @@ class Draws:
     def __init__(self, number):
         self.state = number
 
-    def between(self, low, high):
-        """The next number, from low to high."""
+    def next(self):
+        """The next number, from 0 to 32,767."""
         self.state = (self.state * 1_103_515_245 + 12_345) % 2**31
-        return low + self.state // 65_536 % (high - low + 1)
+        return self.state // 65_536
+
+    def between(self, low, high):
+        """The next number, brought between low and high."""
+        return low + self.next() % (high - low + 1)
 
     def list(self, count, low, high):
-        """The next so many numbers, from low to high."""
+        """The next so many numbers, brought between low and high."""
         return [self.between(low, high) for _ in range(count)]
 
 
@@ -113,6 +117,26 @@ def _row(row):
 def each(number, names):
     """The same number before each name."""
     return [(number, name) for name in names]
+
+
+def generated(size, number):
+    """The problem of `qyas gen NUMBER SIZE`, of which every third variable is the other side's. Whole variables: `size`."""
+    draws = Draws(number)
+    problem = Problem("MAXIMIZE", f"The problem of qyas gen {number} {size}")
+    names = [f"x{at}" for at in range(1, size + 1)]
+    universal = names[2::3]
+    for name in names:
+        variable = problem.event if name in universal else problem.binary
+        variable(name, price=draws.between(1, 9))
+    for row in range(1, size + 1):
+        drawn = [(draws.next(), name) for name in names]
+        terms = [(1 + draw // 2 % 5, name) for draw, name in drawn if draw % 2 == 1]
+        theirs = sum(number for number, name in terms if name in universal)
+        if terms:
+            problem.row(f"row{row}", terms, "<=", theirs + (sum(number for number, _ in terms) - theirs) // 2)
+    if universal:
+        problem.uncertain("half", each(1, universal), "<=", (len(universal) + 1) // 2)
+    return problem
 
 
 def facility(size, number):
@@ -352,7 +376,7 @@ def gate(size, number):
     door = problem.binary("door")
     bolt = problem.event("bolt")
     problem.row("match", [(1, door), (-1, bolt)], "=", 0)
-    problem.uncertain("winds", each(1, [*idle, bolt]), "<=", size)
+    problem.uncertain("winds", each(1, [*idle, bolt]), "<=", 1)
     return problem
 
 
@@ -387,6 +411,7 @@ def near(size, number):
 FAMILIES = {
     made.__name__.replace("_", "-"): made
     for made in (
+        generated,
         facility,
         network,
         projects,

@@ -1,4 +1,5 @@
 use crate::asked::Asked;
+use crate::files::file_line;
 use crate::mixed::{leaf_line, leaf_run_line};
 use crate::relaxations::boxes_line;
 use crate::runs::runs_line;
@@ -6,13 +7,21 @@ use crate::solved::solve_line;
 use crate::tableaus::pivots_line;
 use crate::texts::made_line;
 use bench_made::Density;
-use qm_io::Memory;
+use qm_io::{Memory, Source};
 use std::alloc::Global;
 
-/// The answer to the words, and `?` where they ask nothing.
-pub fn answer(alloc: Global, words: &[String]) -> Result<String, Memory> {
+/// The answer to the words, and `?` where they ask nothing. The file is that of their second.
+pub fn answer<S: Source>(
+    alloc: Global,
+    words: &[String],
+    file: &mut S,
+) -> Result<String, Memory> {
     match words {
-        [word, shape, pairs] => of_shape(alloc, word.as_str(), shape.as_str(), pairs.as_str()),
+        [word, name, number] => match word.as_str() {
+            "file" => file_line(alloc, file, number.as_str()),
+            "pivots" => pivots_line(alloc, name.as_str(), number.as_str()),
+            _ => unasked(alloc),
+        },
         [word, size, number, times] => {
             match Asked::read(size.as_str(), number.as_str(), times.as_str()) {
                 Some(asked) => of_problem(alloc, word.as_str(), asked),
@@ -27,13 +36,6 @@ pub fn answer(alloc: Global, words: &[String]) -> Result<String, Memory> {
 /// The answer where nothing is asked.
 pub fn unasked(alloc: Global) -> Result<String, Memory> {
     Ok(String::from_str(alloc, "?")?)
-}
-
-fn of_shape(alloc: Global, word: &str, shape: &str, pairs: &str) -> Result<String, Memory> {
-    match word {
-        "pivots" => pivots_line(alloc, shape, pairs),
-        _ => unasked(alloc),
-    }
 }
 
 fn of_problem(alloc: Global, word: &str, asked: Asked) -> Result<String, Memory> {

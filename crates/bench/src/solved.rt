@@ -8,7 +8,7 @@ use qm_search::{SearchFault, Solved, solve};
 use std::alloc::Global;
 
 /// The most entries of a search.
-const MOST: u64 = 50_000_000;
+pub const MOST: u64 = 50_000_000;
 
 /// How searches end.
 #[derive(Clone, Copy)]
@@ -52,7 +52,8 @@ impl Search {
     }
 }
 
-fn found_by(certificate: &Certificate) -> Found {
+/// How a search with this certificate ends.
+pub fn found_by(certificate: &Certificate) -> Found {
     match certificate {
         Certificate::Optimal { .. } => Found::Value,
         _ => Found::NoValue,

@@ -8,4 +8,4 @@ mod stated;
 
 pub use made::Made;
 pub use shapes::{Density, continuous_text_of, mixed_text_of, text_of};
-pub use stated::game_of;
+pub use stated::{game_of, game_of_bytes};

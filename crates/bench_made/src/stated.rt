@@ -13,7 +13,11 @@ const MOST: usize = 0x7FFF_FFFF;
 
 /// The game that the text states; none where it states none, or memory runs out.
 pub fn game_of(alloc: Global, text: &str) -> Option<Game> {
-    let text = text.as_bytes();
+    game_of_bytes(alloc, text.as_bytes())
+}
+
+/// The game that these bytes state; none where they state none, or memory runs out.
+pub fn game_of_bytes(alloc: Global, text: &[u8]) -> Option<Game> {
     if text.len() > MOST {
         return None;
     }
