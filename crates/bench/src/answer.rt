@@ -11,11 +11,7 @@ use qm_io::{Memory, Source};
 use std::alloc::Global;
 
 /// The answer to the words, and `?` where they ask nothing. The file is that of their second.
-pub fn answer<S: Source>(
-    alloc: Global,
-    words: &[String],
-    file: &mut S,
-) -> Result<String, Memory> {
+pub fn answer<S: Source>(alloc: Global, words: &[String], file: &mut S) -> Result<String, Memory> {
     match words {
         [word, name, number] => match word.as_str() {
             "file" => file_line(alloc, file, number.as_str()),

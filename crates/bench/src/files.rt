@@ -14,11 +14,7 @@ const MOST_BYTES: usize = 4_194_304;
 
 /// How a search of the problem in the file ends within a budget of entries, how many entries it makes, and how many bytes
 /// the text of its certificate has.
-pub fn file_line<S: Source>(
-    alloc: Global,
-    file: &mut S,
-    budget: &str,
-) -> Result<String, Memory> {
+pub fn file_line<S: Source>(alloc: Global, file: &mut S, budget: &str) -> Result<String, Memory> {
     match budget.parse::<u64>() {
         Ok(budget) if budget >= 1 && budget <= MOST => match game_in(alloc, file)? {
             Some(game) => search_line(alloc, &game, budget),

@@ -43,11 +43,7 @@ fn path(alloc: Global, words: &[String]) -> Result<String, AllocError> {
 }
 
 // The answer, and what stands for it where memory runs out.
-fn line<S: Source>(
-    alloc: Global,
-    words: &[String],
-    file: &mut S,
-) -> Result<String, AllocError> {
+fn line<S: Source>(alloc: Global, words: &[String], file: &mut S) -> Result<String, AllocError> {
     match answer::answer(alloc, words, file) {
         Ok(line) => Ok(line),
         Err(Memory) => String::from_str(alloc, "memory"),
