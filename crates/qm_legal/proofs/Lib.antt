@@ -7,6 +7,7 @@ pub mod Found
 pub mod Plays
 pub mod WholeBoxes
 pub mod OpenBoxes
+pub mod OtherRows
 pub mod AlivePlays
 pub mod Growth
 pub mod Asking

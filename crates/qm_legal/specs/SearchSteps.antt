@@ -1,7 +1,9 @@
 -- Steps of the search: what it finds from a place on.
-use Rattle.std.specs.Prelude.{◌≡◌, ℕ, ◌+◌, ℤ, ◌≤ℤ◌, ◌<ℤ◌, false, List, [], ◌∷◌, take, slice_set, Option, Some, None}
+use Rattle.std.specs.Prelude.{◌≡◌, ◌==◌, Bool, ℕ, ◌+◌, ℤ, ◌≤ℤ◌, ◌<ℤ◌, false, List, [], ◌∷◌, take, slice_set, Option, Some, None}
+use Rattle.std.specs.List.{list_any}
 use Rattle.qm_model.specs.declared.range.Range.{Range}
 use Rattle.qm_model.specs.declared.row.Row.{Row}
+use Rattle.qm_model.specs.declared.row.Term.{Term}
 use Rattle.qm_model.specs.declared.variable.Player.{Player}
 use Rattle.qm_model.specs.declared.variable.Var.{Var}
 use Rattle.qm_model.specs.declared.game.Problem.{Problem}
@@ -12,6 +14,10 @@ use Rattle.qm_trees.specs.declared.empty.Empty.{Empty}
 use Rattle.qm_trees.specs.declared.empty.EmptyPart.{EmptyPart}
 use Rattle.qm_trees.specs.EmptyJudgement.{range_of, below_of, some_universal_empty}
 use Rattle.qm_legal.specs.Queries.{AreSet, Shows}
+
+-- one of the terms is of the variable
+abbrev pub names : ℕ → List Term → Bool
+names var ts = list_any (λ t. t.var == var) ts
 
 -- the player sets the next variable
 abbrev pub SetsNext : Player → List Var → Type 0

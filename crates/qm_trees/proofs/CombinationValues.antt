@@ -5,7 +5,7 @@ use Rattle.std.specs.Ordering.{int_eq}
 use Rattle.std.proofs.lemmas.List.Elements.{All-head, All-tail}
 use Rattle.std.proofs.lemmas.Int.{ints}
 use Rattle.qm_math.specs.Fraction.{Fraction, whole, IsSame, IsAtMost, IsBelow, is_below}
-use Rattle.qm_math.specs.Arithmetic.{sum_of, negated, difference_of, product_of, quotient_of}
+use Rattle.qm_math.specs.Arithmetic.{sum_of, difference_of, product_of, quotient_of}
 use Rattle.qm_math.proofs.Polynomials.{number, ◌⊕◌, ◌⊗◌, minus}
 use Rattle.qm_math.proofs.Ring.{x0, x1, x2}
 use Rattle.qm_math.proofs.FractionRing.{num_of, den_of, same_from, same_by_ring}

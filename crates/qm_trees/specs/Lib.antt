@@ -14,5 +14,6 @@ pub mod Cuts
 pub mod RefuteRight
 pub mod EmptyJudgement
 pub mod EmptyRight
+pub mod Nodes
 pub mod Passing
 pub mod Reaching

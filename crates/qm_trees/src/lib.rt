@@ -5,6 +5,7 @@
 //! rule or an operation that leaves (`PolicyJudgement`, `RefuteJudgement`, `EmptyJudgement`, over `Verdicts` and
 //! `Ranges`). A combination closes a goal by Farkas' lemma: rows times multipliers above 0 contradict the box, or bound
 //! the objective (`Entries`, `Evaluation`, `Closing`, `BoxPoints`).
+//! A copy of a tree equals it (`copies`), and a tree tells how many nodes it has (`nodes`, by `Nodes`).
 //! The laws: a judgement is fine exactly where the tree is right and no operation leaves; a right policy wins its
 //! value, play by play (`Reaching`); against a right refutation, whose cuts hold (`Cuts`), nobody wins the goal; no
 //! play has its values in the box of a right empty tree (`Picks`).
@@ -12,8 +13,10 @@
 
 mod combination;
 mod combination_laws;
+mod copies;
 mod empty;
 mod empty_laws;
+mod nodes;
 mod policy;
 mod policy_laws;
 mod refutation;

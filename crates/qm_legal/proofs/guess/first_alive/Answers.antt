@@ -25,6 +25,9 @@ loop-covered-init c =
 pub dead_row_with-requires-clause-bx : goal.dead_row_with-requires-clause-bx
 dead_row_with-requires-clause-bx c = rw c.loop-covered.invariant.same c.requires.bx.alive.box
 
+pub dead_row_with-requires-clause-alive : goal.dead_row_with-requires-clause-alive
+dead_row_with-requires-clause-alive c = rw c.loop-covered.invariant.same c.requires.bx.alive.alive
+
 pub dead_row_with-requires-clause-inside : goal.dead_row_with-requires-clause-inside
 dead_row_with-requires-clause-inside c =
     let before = c.loop-covered.invariant in

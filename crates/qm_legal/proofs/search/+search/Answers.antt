@@ -287,6 +287,10 @@ pub search_value-dead_row_with-requires-clause-bx : goal.search_value-dead_row_w
 search_value-dead_row_with-requires-clause-bx t c =
     c.requires.entered.box.alive.box
 
+pub search_value-dead_row_with-requires-clause-alive : goal.search_value-dead_row_with-requires-clause-alive
+search_value-dead_row_with-requires-clause-alive t c =
+    c.requires.entered.box.alive.alive
+
 pub search_value-dead_row_with-requires-clause-inside : goal.search_value-dead_row_with-requires-clause-inside
 search_value-dead_row_with-requires-clause-inside t c =
     one_inside (range_at c.args.bx.now c.args.here.depth) c.args.run c.requires.run
