@@ -20,7 +20,7 @@ use Rattle.qm_trees.specs.Entries.{row_named}
 use Rattle.qm_trees.specs.RefuteRight.{AreNamed}
 use Rattle.qm_combo.specs.Entries.{HasNarrowRows, IsNarrow}
 
-row_is_narrow : (xs : List Var) (row : Row) → IsRowOver xs row → IsNarrow row
+pub row_is_narrow : (xs : List Var) (row : Row) → IsRowOver xs row → IsNarrow row
 row_is_narrow xs row over = record {
   terms = record {
     ordered = over.ordered;
@@ -30,7 +30,7 @@ row_is_narrow xs row over = record {
 }
 
 -- an item that is all_at has what all have
-all_at : {X : Type 0} (Q : X → Type 0) (xs : List X) (n : ℕ) → All Q xs → IsSome (slice_get xs n) → IsSomeAnd (slice_get xs n) Q
+pub all_at : {X : Type 0} (Q : X → Type 0) (xs : List X) (n : ℕ) → All Q xs → IsSome (slice_get xs n) → IsSomeAnd (slice_get xs n) Q
 all_at Q [] n all some = cc
 all_at Q (x ∷ xs) zero all some = All-head Q x xs all
 all_at Q (x ∷ xs) (suc n) all some = all_at Q xs n (All-tail Q x xs all) some

@@ -7,6 +7,8 @@
 //! `test_empty` goes through a tree that splits ranges of universal variables and closes by uncertainty rows alone.
 //! Each leaves where the first operation leaves the range of `Frac`. No call takes memory.
 //!
+//! `place_of` and `coefficient_of` find a variable among the terms of a row.
+//!
 //! Public clauses cite `value_of` of `specs/Evaluation`, `closing` of `specs/Closing`, `judge_empty` of
 //! `specs/EmptyJudgement` and `IsRightEmpty` of `specs/EmptyRight`, all of qm_trees. Combinations and trees are given on.
 #![tactic(auto)]
@@ -21,3 +23,4 @@ pub use closing::{closes, value};
 pub use empty::test_empty;
 pub use qm_game::Goal;
 pub use qm_trees::{Combo, ComboValue, Empty, EmptyPart, Entry};
+pub use terms::{coefficient_of, place_of};

@@ -1,4 +1,4 @@
-ghost use Rattle.std.specs.Prelude.{◌≡◌, IsSome, Some};
+ghost use Rattle.std.specs.Prelude.{◌≡◌, ◌<◌, ◌≤◌, IfSome, IsSome, Some, drop, length, slice_get};
 ghost use Rattle.qm_math.specs.Fraction.{is_at_most, is_below};
 ghost use Rattle.qm_model.specs.Linear.{IsOrdered, coefficient};
 ghost use Rattle.qm_trees.specs.Entries.{row_named};
@@ -19,18 +19,34 @@ pub(crate) fn is_at_most(a: Frac, b: Frac) -> bool
     a.cmp(b) != Ordering::Greater
 }
 
+/// How many terms are of earlier variables.
+pub fn place_of(terms: &[Term], var: u32) -> usize
+    requires { IsOrdered terms.now }
+    ensures within { result ≤ length terms.now }
+    ensures before { coefficient (drop result terms.now) var ≡ coefficient terms.now var }
+    ensures behind { IfSome (slice_get terms.now result) (λ t. var ≤ t.var) }
+{
+    let mut low = 0;
+    let mut high = terms.len();
+    while low < high {
+        let middle = low + (high - low) / 2;
+        if terms[middle].var < var {
+            low = middle + 1;
+        } else {
+            high = middle;
+        }
+    }
+    low
+}
+
 /// The coefficient of a variable, 0 where no term names it.
-pub(crate) fn coefficient_of(terms: &[Term], var: u32) -> i128
+pub fn coefficient_of(terms: &[Term], var: u32) -> i128
     requires { IsOrdered terms.now }
     ensures { result ≡ coefficient terms.now var }
 {
-    for term in terms {
-        if term.var == var {
-            return number_of(*term);
-        }
-        if term.var > var {
-            return 0;
-        }
+    let at = place_of(terms, var);
+    if at < terms.len() && terms[at].var == var {
+        return number_of(terms[at]);
     }
     0
 }

@@ -1,9 +1,7 @@
 -- What a combination closes over a box, no complete prefix in the box and no point after it reach.
-use Rattle.std.proofs.Common.{◌≡◌, ℕ, ◌<◌, List, [], ◌∷◌, ◌++◌, length, get_or, map, drop, All, Option, Some, None, refl, sym, subst, ℤ, pos, ◌+ℤ◌, ◌*ℤ◌, ◌≤ℤ◌}
+use Rattle.std.proofs.Common.{◌≡◌, ℕ, ◌<◌, List, [], ◌∷◌, ◌++◌, length, get_or, map, drop, All, Some, sym, subst, ℤ, pos, ◌+ℤ◌, ◌*ℤ◌, ◌≤ℤ◌}
 use Rattle.std.specs.Prelude.{slice_get}
-use Rattle.std.specs.List.{cons_option}
-use Rattle.std.specs.Option.{option_map}
-use Rattle.std.proofs.lemmas.List.Elements.{All-cons, All-nil}
+use Rattle.std.proofs.lemmas.List.Elements.{All-nil}
 use Rattle.std.proofs.lemmas.Option.{slice_get_within, get_or_from_slice_get}
 use Rattle.qm_math.specs.Fraction.{Fraction, whole, IsSame}
 use Rattle.qm_math.specs.Arithmetic.{sum_of, quotient_of}
@@ -26,16 +24,16 @@ use Rattle.qm_model.specs.Sound.{IsSound}
 use Rattle.qm_model.proofs.GoalOrder.{objective_den, reaches-same}
 use Rattle.qm_model.proofs.UncertaintyRows.{length-complete}
 use Rattle.qm_trees.specs.declared.combination.Entry.{Entry}
-use Rattle.qm_trees.specs.Entries.{Combination, IsPositive, Weighted, row_named, weighted_rows, with_row}
+use Rattle.qm_trees.specs.Entries.{Combination, IsPositive, Weighted, row_named, weighted_rows}
 use Rattle.qm_trees.specs.Closing.{Closes}
 use Rattle.qm_trees.specs.BoxPoints.{BeginIn, IsInBox, HoldsAt, form_of, objective_of}
 use Rattle.qm_trees.proofs.CombinationSound.{closes_refutes}
-use Rattle.qm_trees.proofs.Multipliers.{weighted_dens, weighted_not_negative}
+use Rattle.qm_trees.proofs.Multipliers.{all_put, weighted_dens, weighted_not_negative}
 use Rattle.qm_trees.proofs.RowsOver.{HoldsAt-over, form_of-over, form_of-over_den}
 
 -- ---- the values of a prefix in the box, and of a point within the bounds, lie in the box
 
-within_whole_box : (d : ℕ) (xs : List Var) (ns : List ℤ) → 0 < d → AreWithinOver d xs ns → IsInBox (whole_box_of xs) (map (over d) ns)
+pub within_whole_box : (d : ℕ) (xs : List Var) (ns : List ℤ) → 0 < d → AreWithinOver d xs ns → IsInBox (whole_box_of xs) (map (over d) ns)
 within_whole_box d [] [] some h = tt
 within_whole_box d [] (n ∷ ns) some h = absurd h
 within_whole_box d (x ∷ xs) [] some h = absurd h
@@ -93,23 +91,20 @@ module _ (P : Problem) (prefix : List ℤ) (y : Point) (some : 0 < y.den) (scale
 
 -- ---- the rows of a combination
 
+-- what holds of all holds of the one that is there
+pub holds_at : {A : Type 0} (Q : A → Type 0) (xs : List A) (n : ℕ) (a : A) → All Q xs → slice_get xs n ≡ Some a → Q a
+holds_at Q xs n a all at = subst Q (get_or_from_slice_get xs n a a at) (all n a (slice_get_within xs n a at))
+
 module _ (P : Problem) (cuts : List Row) (Q : Row → Type 0) (rows : All Q P.rows) (urows : All Q P.urows) (of_cuts : All Q cuts) where
-  holds_at : (xs : List Row) (n : ℕ) (row : Row) → All Q xs → slice_get xs n ≡ Some row → Q row
-  holds_at xs n row all at = subst Q (get_or_from_slice_get xs n row row at) (all n row (slice_get_within xs n row at))
-
   named_holds : (i : RowId) (row : Row) → row_named P cuts i ≡ Some row → Q row
-  named_holds (id.Row n) row at = holds_at P.rows n row rows at
-  named_holds (id.Uncertain n) row at = holds_at P.urows n row urows at
-  named_holds (id.Cut n) row at = holds_at cuts n row of_cuts at
-
-  put_holds : (e : Entry) (o : Option Row) (ws : List Weighted) → row_named P cuts e.row ≡ o → All (λ (w : Weighted). Q w.row) ws → All (λ (w : Weighted). Q w.row) (cons_option (option_map (with_row e.by) o) ws)
-  put_holds e None ws at others = others
-  put_holds e (Some row) ws at others = All-cons (λ (w : Weighted). Q w.row) (with_row e.by row) ws (named_holds e.row row at) others
+  named_holds (id.Row n) row at = holds_at Q P.rows n row rows at
+  named_holds (id.Uncertain n) row at = holds_at Q P.urows n row urows at
+  named_holds (id.Cut n) row at = holds_at Q cuts n row of_cuts at
 
   -- what holds of each row, uncertainty row and cut holds of each row of a combination
   pub weighted_hold : (es : List Entry) → All (λ (w : Weighted). Q w.row) (weighted_rows P cuts es)
   weighted_hold [] = All-nil (λ (w : Weighted). Q w.row)
-  weighted_hold (e ∷ es) = put_holds e (row_named P cuts e.row) (weighted_rows P cuts es) refl (weighted_hold es)
+  weighted_hold (e ∷ es) = all_put (λ (w : Weighted). Q w.row) e.by (row_named P cuts e.row) (weighted_rows P cuts es) (named_holds e.row) (weighted_hold es)
 
 -- ---- what is closed
 

@@ -68,7 +68,7 @@ moved t q rest s s1 hq hrest hs hs1 total first = record {
   positive = total.positive;
 }
 
-from_zero : (t : Fraction) (total : Fraction) → 0 < total.den → IsExact t (sum_of total zero) → IsSame t total
+pub from_zero : (t : Fraction) (total : Fraction) → 0 < total.den → IsExact t (sum_of total zero) → IsSame t total
 from_zero t total h exact = same_trans t (sum_of total zero) total (sum_of_den total zero h (whole_den (pos 0))) exact.same (sum_of-zero total)
 
 pub below_true : (a b : Fraction) → is_below a b ≡ true → IsBelow a b
@@ -83,7 +83,7 @@ zero_product k s = same_by_ring (k ∷ s ∷ []) x1 (x0 ⊗ number (pos 0) ⊕ x
 nothing_added : (by s : Fraction) (k : ℤ) → k ≡ pos 0 → IsSame s (sum_of (product_of by (whole k)) s)
 nothing_added by s k e = subst (λ (n : ℤ). IsSame s (sum_of (product_of by (whole n)) s)) (sym e) (zero_product by s)
 
-nothing_less : (c : Fraction) → IsSame c (difference_of c (whole (pos 0)))
+pub nothing_less : (c : Fraction) → IsSame c (difference_of c (whole (pos 0)))
 nothing_less c = same_by_ring (c ∷ []) x0 (x0 ⊕ minus (number (pos 0))) refl
 
 kept : (c t : Fraction) (k : ℤ) → 0 < c.den → c ≡ t → k ≡ pos 0 → IsExact t (difference_of c (whole k))
@@ -92,7 +92,7 @@ kept c t k hc e z = subst (λ (x : Fraction). IsExact x (difference_of c (whole 
 
 -- ---- the right side
 
-add_right_sides_exact : (ws : List Weighted) (s t : Fraction) → All (λ (w : Weighted). 0 < w.by.den) ws → 0 < s.den → add_right_sides ws s ≡ Ok t → IsExact t (sum_of (combined_right ws) s)
+pub add_right_sides_exact : (ws : List Weighted) (s t : Fraction) → All (λ (w : Weighted). 0 < w.by.den) ws → 0 < s.den → add_right_sides ws s ≡ Ok t → IsExact t (sum_of (combined_right ws) s)
 add_right_sides_exact [] s t dens hs h = record {
   same = subst (λ (x : Fraction). IsSame x (sum_of zero s)) (ok_is s t h) (same_sym (sum_of zero s) s (zero-sum_of s));
   positive = subst (λ (x : Fraction). 0 < x.den) (ok_is s t h) hs;
@@ -109,7 +109,7 @@ add_right_sides_exact (w ∷ ws) s t dens hs h =
 
 -- ---- a combined coefficient
 
-add_coefficients_exact : (var : ℕ) (ws : List Weighted) (s t : Fraction) → All (λ (w : Weighted). 0 < w.by.den) ws → 0 < s.den → add_coefficients var ws s ≡ Ok t → IsExact t (sum_of (combined_row_at ws var) s)
+pub add_coefficients_exact : (var : ℕ) (ws : List Weighted) (s t : Fraction) → All (λ (w : Weighted). 0 < w.by.den) ws → 0 < s.den → add_coefficients var ws s ≡ Ok t → IsExact t (sum_of (combined_row_at ws var) s)
 add_coefficients_exact var [] s t dens hs h = record {
   same = subst (λ (x : Fraction). IsSame x (sum_of zero s)) (ok_is s t h) (same_sym (sum_of zero s) s (zero-sum_of s));
   positive = subst (λ (x : Fraction). 0 < x.den) (ok_is s t h) hs;

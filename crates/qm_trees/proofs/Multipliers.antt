@@ -24,14 +24,17 @@ use Rattle.qm_trees.proofs.Lines.{always, never}
 
 -- ---- what holds of each multiplier holds of those of the weighted rows
 
-put : (Q : Fraction → Type 0) (by : Fraction) (o : Option Row) (ws : List Weighted) → Q by → All (λ (w : Weighted). Q w.by) ws → All (λ (w : Weighted). Q w.by) (cons_option (option_map (with_row by) o) ws)
-put Q by None ws h others = others
-put Q by (Some row) ws h others = All-cons (λ (w : Weighted). Q w.by) (with_row by row) ws h others
+-- what holds of the row that is there, and of the others, holds of all
+pub all_put : (Q : Weighted → Type 0) (by : Fraction) (o : Option Row) (ws : List Weighted) → ((row : Row) → o ≡ Some row → Q (with_row by row)) → All Q ws
+    → All Q (cons_option (option_map (with_row by) o) ws)
+all_put Q by None ws h others = others
+all_put Q by (Some row) ws h others = All-cons Q (with_row by row) ws (h row refl) others
 
 weighted_each : (P : Problem) (cuts : List Row) (Q : Fraction → Type 0) (es : List Entry) → ((e : Entry) → IsPositive e → Q e.by) → All IsPositive es → All (λ (w : Weighted). Q w.by) (weighted_rows P cuts es)
 weighted_each P cuts Q [] says h = All-nil (λ (w : Weighted). Q w.by)
 weighted_each P cuts Q (e ∷ es) says h =
-    put Q e.by (row_named P cuts e.row) (weighted_rows P cuts es) (says e (All-head IsPositive e es h)) (weighted_each P cuts Q es says (All-tail IsPositive e es h))
+    all_put (λ (w : Weighted). Q w.by) e.by (row_named P cuts e.row) (weighted_rows P cuts es) (λ row at. says e (All-head IsPositive e es h))
+    (weighted_each P cuts Q es says (All-tail IsPositive e es h))
 
 pub weighted_dens : (P : Problem) (cuts : List Row) (es : List Entry) → All IsPositive es → All (λ (w : Weighted). HasPositiveDen w.by) (weighted_rows P cuts es)
 weighted_dens P cuts es h = weighted_each P cuts HasPositiveDen es (λ e positive. positive.0) h

@@ -11,6 +11,8 @@ pub mod PolicyRight
 pub mod Picks
 pub mod RefuteJudgement
 pub mod Cuts
+pub mod CutEntries
+pub mod CutRules
 pub mod RefuteRight
 pub mod EmptyJudgement
 pub mod EmptyRight

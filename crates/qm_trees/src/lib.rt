@@ -1,10 +1,11 @@
-//! Combinations of rows, policies, refutations and empty trees: the data of a certificate, and when it is right.
+//! Combinations of rows, cuts, policies, refutations and empty trees: the data of a certificate, and when it is right.
 //!
 //! `specs/` says each twice: without an order, exactly and in unbounded fractions (`PolicyRight`, `RefuteRight`,
 //! `EmptyRight`), and as a judgement in the order of the text, operation by operation, whose first fault is a broken
 //! rule or an operation that leaves (`PolicyJudgement`, `RefuteJudgement`, `EmptyJudgement`, over `Verdicts` and
 //! `Ranges`). A combination closes a goal by Farkas' lemma: rows times multipliers above 0 contradict the box, or bound
-//! the objective (`Entries`, `Evaluation`, `Closing`, `BoxPoints`).
+//! the objective (`Entries`, `Evaluation`, `Closing`, `BoxPoints`). A cut is a combination of rows, bounds and earlier
+//! cuts, rounded down (`CutEntries`, `CutRules`).
 //! A copy of a tree equals it (`copies`), and a tree tells how many nodes it has (`nodes`, by `Nodes`).
 //! The laws: a judgement is fine exactly where the tree is right and no operation leaves; a right policy wins its
 //! value, play by play (`Reaching`); against a right refutation, whose cuts hold (`Cuts`), nobody wins the goal; no
@@ -14,6 +15,7 @@
 mod combination;
 mod combination_laws;
 mod copies;
+mod cut_combo;
 mod empty;
 mod empty_laws;
 mod nodes;
@@ -30,6 +32,7 @@ pub use combination_laws::{
     closed_goals_are_out_of_reach, closing_closes_harder_goals, closing_is_exact,
     combination_values_are_exact, combinations_are_sound, rows_hold_over_one_denominator,
 };
+pub use cut_combo::{CutCombo, CutEntry, CutRow};
 pub use empty::{Empty, EmptyPart};
 pub use empty_laws::{fine_empty_trees_are_right, right_empty_trees_leave_no_play};
 pub use policy::{Below, Policy, PolicyPart};
