@@ -8,14 +8,15 @@
 //! legal prefixes of `qm_model` and the right trees of `qm_trees`. What it adds to the journal is what a question may add
 //! (`qm_journal`), and the journal stays lawful.
 //!
-//! Within, first values that no uncertainty row refuses are guessed (`guess`). Where that fails, a depth-first search
-//! sets the universal variables in game order (`search`), each from the low end of what propagation leaves on
-//! (`guide`). The first uncertainty row that is dead over a value's box closes it (`dead`), and with it the longest run
+//! Within, first values that no uncertainty row refuses are guessed (`guess`; [`completed_at_once`] offers them alone).
+//! Where that fails, a depth-first search sets the universal variables in game order (`search`), each from the low end of
+//! what propagation leaves on (`guide`). The first uncertainty row that is dead over a value's box closes it (`dead`), and with it the longest run
 //! of values that the row is dead over, found by bisection (`run`, `part`). `specs/SearchSteps.antt` and
 //! `JournalSteps.antt` define what these steps promise one another.
 #![tactic(auto)]
 
 mod answer;
+mod at_once;
 mod completion;
 mod copied;
 mod dead;
@@ -30,6 +31,7 @@ mod search;
 mod shown;
 
 pub use answer::legal;
+pub use at_once::completed_at_once;
 pub use fault::LegalFault;
 pub use legality::Legality;
 pub use named::NamedPrefix;

@@ -6,7 +6,7 @@ use Rattle.qm_math.specs.Ranges.{IsBetween}
 use Rattle.qm_model.specs.declared.range.Range.{Range}
 use Rattle.qm_model.specs.declared.variable.Var.{Var}
 use Rattle.qm_model.specs.declared.game.Problem.{Problem}
-use Rattle.qm_model.specs.Boxes.{bounds_of, whole_box_of}
+use Rattle.qm_model.specs.Boxes.{IsBox, bounds_of, whole_box_of}
 use Rattle.qm_model.specs.Plays.{IsWithin, whole_vars}
 use Rattle.qm_model.specs.Points.{continuous_vars}
 use Rattle.qm_model.specs.Sound.{IsSound}
@@ -22,6 +22,11 @@ pub later_vars : (P : Problem) (depth : ℕ) → IsSound P → depth ≤ P.whole
 later_vars P depth sound shallow =
     ap (drop depth) (sym (take-append-drop P.wholes P.vars))
     ∙ drop-append-le depth (whole_vars P) (continuous_vars P) (omega (arith, shallow, sound.wholes, length-take P.wholes P.vars))
+
+-- a value of a range in its place makes a box
+pub box_at : (P : Problem) (bx : List Range) (depth : ℕ) (v : ℤ) → IsBox P.vars bx → IsBetween (range_at bx depth).low (range_at bx depth).high v → IsBox P.vars (set bx depth (single v))
+box_at P bx depth v box within =
+    set_in_box P.vars bx depth (single v) box (one_inside (range_at bx depth) (single v) (record { single = refl; low = within.0; high = within.1 }))
 
 -- ---- the next variable
 
@@ -57,13 +62,12 @@ module _ (P : Problem) (rest : List Var) (depth : ℕ) (bx : List Range) (from_d
   pub next_box : (v : ℤ) → IsBetween (range_at bx depth).low (range_at bx depth).high v → IsSearchBox P (depth + 1) (set bx depth (single v))
   next_box v within =
       let first = next_in_box P rest depth bx from_depth some here.box in
-      let inside = one_inside (range_at bx depth) (single v) (record { single = refl; low = within.0; high = within.1 }) in
       let others : drop (depth + 1) bx ≡ whole_box_of (drop (depth + 1) P.vars) =
       sym (drop-drop 1 depth bx) ∙ ap (drop 1) here.others ∙ drop-map bounds_of 1 (drop depth P.vars) ∙ ap whole_box_of (drop-drop 1 depth P.vars) in
       record {
         sound = here.sound;
         shallow = next_shallow;
-        box = set_in_box P.vars bx depth (single v) here.box inside;
+        box = box_at P bx depth v here.box within;
         set = subst (All IsSingle) (sym (take_more_set bx depth (single v) first)) (All-push IsSingle (take depth bx) (single v) here.set refl);
         others = drop-set-lt (depth + 1) bx depth (single v) (omega arith) ∙ others;
       }

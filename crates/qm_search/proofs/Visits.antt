@@ -12,15 +12,16 @@ use Rattle.qm_model.proofs.Players.{exists_of, universal_of}
 use Rattle.qm_game.proofs.NextVariables.{next_in_box}
 use Rattle.qm_journal.specs.declared.entry.JEntry.{JEntry}
 use Rattle.qm_journal.specs.Contents.{Contents}
+use Rattle.qm_journal.specs.Lawful.{IsLawfulWith}
 use Rattle.qm_legal.specs.SearchSteps.{SetsNext}
 use Rattle.qm_search.specs.declared.state.Search.{Search}
-use Rattle.qm_search.specs.Entering.{IsEnterable}
+use Rattle.qm_search.specs.Entering.{IsEnterable, MayHold}
 use Rattle.qm_search.specs.JudgeSteps.{MayBeVisited}
 use Rattle.qm_search.specs.PartSteps.{IsStart}
 use Rattle.qm_search.specs.PlaceSteps.{AreEntered, IsSearchBox, IsSearchPlace, prefix_before}
 use Rattle.qm_search.specs.VisitSteps.{CompletesNext, IsNewPlace, IsNewValuePlace, IsRunPlace, IsUntried, IsValuePlace, IsVisitPlace, Moved, StandsFor, WentAmong, WentAt, WentAsked, WentBelow, game_entry}
 use Rattle.qm_search.proofs.EnteredJournals.{lawful_entered, new_untried, parent_within, stands_after_at, stands_after_below, stands_new}
-use Rattle.qm_search.proofs.JournalGoesOn.{among_below, among_nowhere, among_then, at_then, below_then, entered_at, others_untried, went_wider}
+use Rattle.qm_search.proofs.JournalGoesOn.{among_below, among_nowhere, among_then, at_nowhere, at_then, below_then, entered_at, others_untried, went_wider}
 use Rattle.qm_search.proofs.OpenBoxes.{enterable, entered_more, entered_set, legal_here, prefix_push}
 use Rattle.qm_search.proofs.SearchBoxes.{next_box}
 
@@ -137,6 +138,11 @@ module _ (P : Problem) (depth : ℕ) (old now : Search) (entry : ℕ) (v : ℤ) 
         (stands_after_at old.journal.entries now.journal.entries entry (prefix_before depth old.bx) entry v place.value.stands asked.went.at);
     untried = asked.went.game place.value.untried;
   }
+
+-- the box was changed and put back
+pub stayed : (P : Problem) (entry : ℕ) (v : ℤ) (search : Search) (bx : List Range) → IsLawfulWith P (MayHold P) search.journal.entries → bx ≡ search.bx
+    → Moved P (WentAt entry v) search (record { bx = bx; journal = search.journal })
+stayed P entry v search bx lawful same = record { same = same; limit = refl; lawful = lawful; went = at_nowhere entry v search.journal.entries }
 
 pub moved_then : (P : Problem) (entry : ℕ) (v : ℤ) (old now next : Search) → Moved P (WentAt entry v) old now → Moved P (WentAt entry v) now next → Moved P (WentAt entry v) old next
 moved_then P entry v old now next first then = record {

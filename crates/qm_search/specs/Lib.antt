@@ -5,9 +5,11 @@ pub mod ChoiceSteps
 pub mod AnswerSteps
 pub mod Entering
 pub mod PlaceSteps
+pub mod RecallSteps
 pub mod VisitSteps
 pub mod LeafSteps
 pub mod JudgeSteps
+pub mod LookSteps
 pub mod StopSteps
 pub mod RootSteps
 pub mod Faults

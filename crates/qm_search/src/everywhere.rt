@@ -17,12 +17,12 @@ ghost use Rattle.qm_search.specs.Windows.{IsProperWindow};
 use crate::answer::{Answer, Reply};
 use crate::answers::part_of;
 use crate::outcome::Outcome;
+use crate::reuse::secures;
 use crate::window::Window;
 use qm_frac::Frac;
 use qm_game::{Bx, Place};
 use qm_io::Memory;
 use qm_model::Range;
-use qm_policy::test_from;
 use qm_trees::{Policy, Refute};
 use sqlite_items::Items;
 use std::alloc::Global;
@@ -39,11 +39,7 @@ fn secures_everywhere(here: Place<'_>, bx: &mut Bx, value: &Frac, policy: &Polic
     if range.high <= range.low {
         return false;
     }
-    let below = here.behind();
-    matches!(
-        test_from(here.game, below.depth, bx, value, policy),
-        Ok(true)
-    )
+    secures(here.behind(), bx, value, policy)
 }
 
 /// The policy that answers each value of the range by this one.

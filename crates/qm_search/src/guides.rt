@@ -1,7 +1,9 @@
 ghost use Rattle.qm_search.specs.PartSteps.{IsStart};
 
+use crate::outcome::Outcome;
+use crate::remembered::Remembered;
 use crate::start::{highest, nearest_in};
-use qm_game::Game;
+use qm_game::{Bx, Game, Place};
 use qm_io::{List, Memory};
 use qm_model::Range;
 use std::alloc::Global;
@@ -11,6 +13,8 @@ use std::alloc::Global;
 pub struct Guides {
     /// By depth, the value of a universal variable that ended a visit last.
     ending: List<i64>,
+    /// The policies that visits found.
+    pub remembered: Remembered,
 }
 
 impl Guides {
@@ -20,7 +24,10 @@ impl Guides {
         for variable in game.problem().vars.as_slice() {
             ending.push(variable.high)?;
         }
-        Ok(Guides { ending })
+        Ok(Guides {
+            ending,
+            remembered: Remembered::new(alloc, game)?,
+        })
     }
 
     /// The value of the range with which to begin at this depth: the one that ended a visit last, or the highest.
@@ -37,6 +44,25 @@ impl Guides {
     pub fn note(&mut self, depth: usize, value: i64) {
         if depth < self.ending.len() {
             self.ending.set(depth, value);
+        }
+    }
+
+    /// Keeps the policy of the outcome of a box.
+    pub fn keep(
+        &mut self,
+        alloc: Global,
+        here: Place<'_>,
+        bx: &Bx,
+        outcome: &Outcome,
+    ) -> Result<(), Memory> {
+        match outcome {
+            Outcome::Under(_) => Ok(()),
+            Outcome::At { value, policy, .. } => {
+                self.remembered.keep(alloc, here, bx, *value, policy)
+            }
+            Outcome::Over { value, policy } => {
+                self.remembered.keep(alloc, here, bx, *value, policy)
+            }
         }
     }
 }

@@ -20,6 +20,7 @@ use crate::everywhere::settled;
 use crate::guides::Guides;
 use crate::judge::{Judged, judge};
 use crate::legality::{is_known, later_values, legality, list_of};
+use crate::looks::{FirstLook, Lowest, first_look};
 use crate::outcome::Outcome;
 use crate::start::{latest, likeliest};
 use crate::state::Search;
@@ -66,7 +67,7 @@ pub fn visit(
 
 /// The outcome of a prefix with a value behind it, which is set in the box: as it is judged, or else by a visit.
 #[cycle(search)]
-fn enter(
+fn look_into(
     alloc: Global,
     here: Place<'_>,
     search: &mut Search,
@@ -88,7 +89,7 @@ fn enter(
         Judged::Known(outcome) => Ok(outcome),
         Judged::Open(bound) => {
             let entered = search.journal.enter(JKind::Game, entry, value)?;
-            visit(
+            let outcome = visit(
                 alloc,
                 here,
                 search,
@@ -97,7 +98,50 @@ fn enter(
                 completion,
                 latest(&bound, point),
                 window,
-            )
+            )?;
+            guides.keep(alloc, here, &search.bx, &outcome)?;
+            Ok(outcome)
+        }
+    }
+}
+
+/// The outcome of a prefix with a value behind it, which is set in the box: by a policy that is remembered, where one
+/// secures the cap, else as it is judged or by a visit. Where one secures a value, only better ones are looked for.
+#[cycle(search)]
+fn enter(
+    alloc: Global,
+    here: Place<'_>,
+    search: &mut Search,
+    guides: &mut Guides,
+    entry: u32,
+    value: i64,
+    completion: &[i64],
+    point: &Option<BestPoint>,
+    window: &Window,
+) -> Result<Outcome, Stop>
+    requires place { IsNewPlace here.game.now here.depth search.old entry value completion.now }
+    requires point { IsKnownPoint here.game.now point.now }
+    requires window { IsProperWindow window.now }
+    ensures outcome { IfOk result (IsOutcome here.entry.game.now [] [] here.entry.rest.now here.entry.depth search.old.bx window.now) }
+    ensures stop { IfErr result (IsRightStop here.entry.game.now search.new.journal) }
+    ensures moved { Moved here.entry.game.now (WentAt entry value) search.old search.new }
+{
+    match guides
+        .remembered
+        .recalled(alloc, here, &mut search.bx, window)?
+    {
+        None => look_into(
+            alloc, here, search, guides, entry, value, completion, point, window,
+        ),
+        Some(recalled) => {
+            if recalled.is_enough(window) {
+                return Ok(recalled.enough());
+            }
+            let above = recalled.window(window);
+            let outcome = look_into(
+                alloc, here, search, guides, entry, value, completion, point, &above,
+            )?;
+            Ok(recalled.or_better(outcome))
         }
     }
 }
@@ -304,12 +348,14 @@ fn answers_in(
     guides: &mut Guides,
     entry: u32,
     values: Range,
+    lowest: &Lowest,
     completion: &[i64],
     point: &Option<BestPoint>,
     window: &Window,
 ) -> Result<Answered, Stop>
     requires player { SetsNext Universal here.rest.now }
     requires place { IsRunPlace here.game.now here.depth search.old entry completion.now values }
+    requires lowest { IsKnownPoint here.game.now lowest.now.point }
     requires point { IsKnownPoint here.game.now point.now }
     requires window { IsProperWindow window.now }
     ensures answered { IfOk result (AreAnswered here.entry.game.now [] [] here.entry.rest.now here.entry.depth search.old.bx window.now (next_value completion.now) values) }
@@ -319,8 +365,9 @@ fn answers_in(
     let mut answers = Answers::new(alloc);
     for value in values.low..=values.high {
         let within = answers.window(window);
+        let known = lowest.point_at(value, point);
         let answer = answer_to(
-            alloc, here, search, guides, entry, value, completion, point, &within,
+            alloc, here, search, guides, entry, value, completion, known, &within,
         )?;
         match settled(alloc, here, &mut search.bx, &within, answer)? {
             Answer::Ended(outcome) => {
@@ -343,6 +390,7 @@ fn worst_before(
     entry: u32,
     start: i64,
     later: Answers,
+    lowest: &Lowest,
     completion: &[i64],
     point: &Option<BestPoint>,
     window: &Window,
@@ -351,6 +399,7 @@ fn worst_before(
     requires place { IsRunPlace here.game.now here.depth search.old entry completion.now (record { low = (range_at search.old.bx here.depth).low; high = start -ℤ pos 1 }) }
     requires start { IsStart (range_at search.old.bx here.depth) start }
     requires later { AreAllAnswered here.game.now [] [] here.rest.now here.depth search.old.bx window.now (next_value completion.now) (record { low = start; high = (range_at search.old.bx here.depth).high }) later }
+    requires lowest { IsKnownPoint here.game.now lowest.now.point }
     requires point { IsKnownPoint here.game.now point.now }
     requires window { IsProperWindow window.now }
     ensures outcome { IfOk result (IsOutcome here.entry.game.now [] [] here.entry.rest.now here.entry.depth search.old.bx window.now) }
@@ -367,15 +416,55 @@ fn worst_before(
         high: start - 1,
     };
     match answers_in(
-        alloc, here, search, guides, entry, values, completion, point, &within,
+        alloc, here, search, guides, entry, values, lowest, completion, point, &within,
     )? {
         Answered::Enough(outcome) => Ok(later.widened(outcome)),
         Answered::More(answers) => Ok(answers.before(later)?.outcome(window.cap)),
     }
 }
 
-/// The worst that the universal player can do, the likeliest value and those above it first; the first value against which the floor can't be
+/// The worst that the universal player can do, from `start` on first; the first value against which the floor can't be
 /// reached is enough.
+#[cycle(search)]
+fn worst_from(
+    alloc: Global,
+    here: Place<'_>,
+    search: &mut Search,
+    guides: &mut Guides,
+    entry: u32,
+    lowest: &Lowest,
+    completion: &[i64],
+    point: &Option<BestPoint>,
+    window: &Window,
+) -> Result<Outcome, Stop>
+    requires player { SetsNext Universal here.rest.now }
+    requires place { IsVisitPlace here.game.now here.depth search.old entry completion.now }
+    requires start { IsStart (range_at search.old.bx here.depth) lowest.now.value }
+    requires lowest { IsKnownPoint here.game.now lowest.now.point }
+    requires point { IsKnownPoint here.game.now point.now }
+    requires window { IsProperWindow window.now }
+    ensures outcome { IfOk result (IsOutcome here.entry.game.now [] [] here.entry.rest.now here.entry.depth search.old.bx window.now) }
+    ensures stop { IfErr result (IsRightStop here.entry.game.now search.new.journal) }
+    ensures moved { Moved here.entry.game.now (WentBelow entry) search.old search.new }
+{
+    let covered = here.range(&search.bx);
+    let start = lowest.value;
+    let values = Range {
+        low: start,
+        high: covered.high,
+    };
+    match answers_in(
+        alloc, here, search, guides, entry, values, lowest, completion, point, window,
+    )? {
+        Answered::Enough(outcome) => Ok(outcome),
+        Answered::More(answers) => worst_before(
+            alloc, here, search, guides, entry, start, answers, lowest, completion, point, window,
+        ),
+    }
+}
+
+/// The worst that the universal player can do, the likeliest value and those above it first. Before one is visited a look is taken at
+/// all: a value behind which the floor is closed is enough.
 #[cycle(search)]
 fn worst_answer(
     alloc: Global,
@@ -395,18 +484,22 @@ fn worst_answer(
     ensures stop { IfErr result (IsRightStop here.entry.game.now search.new.journal) }
     ensures moved { Moved here.entry.game.now (WentBelow entry) search.old search.new }
 {
-    let covered = here.range(&search.bx);
-    let start = guides.start(covered, here.depth);
-    let values = Range {
-        low: start,
-        high: covered.high,
-    };
-    match answers_in(
-        alloc, here, search, guides, entry, values, completion, point, window,
+    let likeliest = guides.start(here.range(&search.bx), here.depth);
+    match first_look(
+        alloc,
+        here,
+        &mut search.bx,
+        completion,
+        likeliest,
+        point,
+        window,
     )? {
-        Answered::Enough(outcome) => Ok(outcome),
-        Answered::More(answers) => worst_before(
-            alloc, here, search, guides, entry, start, answers, completion, point, window,
+        FirstLook::Closed(value, outcome) => {
+            guides.note(here.depth, value);
+            Ok(outcome)
+        }
+        FirstLook::Begin(lowest) => worst_from(
+            alloc, here, search, guides, entry, &lowest, completion, point, window,
         ),
     }
 }

@@ -1,4 +1,4 @@
-use Rattle.std.proofs.Common.{rules, refl, sym, ◌≡◌, ◌+◌, arith, ap, drop, length, subst, pos, ◌+ℤ◌, ◌-ℤ◌, ◌≤ℤ◌, ◌<ℤ◌, to_z, set, [], ◌∙◌}
+use Rattle.std.proofs.Common.{rules, refl, sym, ◌≡◌, ◌+◌, arith, ap, drop, length, subst, pos, ◌+ℤ◌, ◌-ℤ◌, ◌≤ℤ◌, ◌<ℤ◌, to_z, set, [], ◌∙◌, true, false}
 use Rattle.std.proofs.lemmas.Int.{ints, to_z-of_z}
 use Rattle.std.proofs.lemmas.List.{length-drop}
 use mir.Syntax.{w64}
@@ -28,12 +28,12 @@ use Rattle.qm_search.proofs.Visits.{existential_next, universal_next, asked_move
 use Rattle.qm_search.proofs.walk.+search.Goals as goal
 use Rattle.qm_search.proofs.walk.+search.Goals.{choices_in-else-loop-choice-test, choices_in-then-loop-choice-test+in_ok-next+in_ok-more+in-More+else-choice-choice-end, answers_in-else-loop-value-test, answers_in-then-loop-value-test+in_ok-answer+in_ok-outcome+in-Kept+in_ok-answers-in-Kept+else-value-value-end}
 
-pub enter-judge-requires-clause-place : goal.enter-judge-requires-clause-place
-enter-judge-requires-clause-place t c =
+pub look_into-judge-requires-clause-place : goal.look_into-judge-requires-clause-place
+look_into-judge-requires-clause-place t c =
     judge_place c.args.here.game.now c.args.here.depth c.args.search.now.bx c.args.completion.now c.requires.place.place c.requires.place.entered
 
-pub enter-visit-requires : goal.enter-visit-requires
-enter-visit-requires t c =
+pub look_into-visit-requires : goal.look_into-visit-requires
+look_into-visit-requires t c =
     let P = c.args.here.game.now in
     let rest = c.args.here.rest.now in
     let depth = c.args.here.depth in
@@ -45,8 +45,8 @@ enter-visit-requires t c =
     let place = visit_place P rest depth start c.args.entry v c.args.completion.now c.args.here.from_depth c.requires.place judged.0 c.enter.new.self (ap (λ (J : Contents). J.entries) entered) in
     (omega (arith), (judged.0.some, (rw c.in_ok-entered-in-Open.ensures.number place, (c.latest.ensures P start.bx (goal_of c.args.window.now.floor) judged.1 c.requires.point, c.requires.window))))
 
-pub enter-returns-in_ok-entered-in-Open-clause-moved : goal.enter-returns-in_ok-entered-in-Open-clause-moved
-enter-returns-in_ok-entered-in-Open-clause-moved t c =
+pub look_into-returns-in_err-outcome-in-Open-clause-moved : goal.look_into-returns-in_err-outcome-in-Open-clause-moved
+look_into-returns-in_err-outcome-in-Open-clause-moved t c =
     let P = c.args.here.game.now in
     let rest = c.args.here.rest.now in
     let depth = c.args.here.depth in
@@ -58,6 +58,46 @@ enter-returns-in_ok-entered-in-Open-clause-moved t c =
     let moved = rw c.in_ok-entered-in-Open.ensures.number at c.visit.ensures.moved in
     entered_moves P rest depth start c.args.entry v c.args.completion.now c.args.here.from_depth c.requires.place judged.0 c.enter.new.self c.visit.new.search
     (ap (λ (J : Contents). J.limit) entered) (ap (λ (J : Contents). J.entries) entered) moved
+
+pub look_into-returns-in_err-keep-in-Open-clause-moved : goal.look_into-returns-in_err-keep-in-Open-clause-moved
+look_into-returns-in_err-keep-in-Open-clause-moved t c =
+    let P = c.args.here.game.now in
+    let rest = c.args.here.rest.now in
+    let depth = c.args.here.depth in
+    let start = c.args.search.now in
+    let v = c.args.value in
+    let same = to_z-of_z w64 v c.ranges.value in
+    let judged = subst (IsJudged P rest depth start.bx c.args.window.now) c.in-Open.is c.in_ok-outcome.ensures.judged in
+    let entered = rw same at c.in_ok-entered-in-Open.ensures.entered in
+    let moved = rw c.in_ok-entered-in-Open.ensures.number at c.visit.ensures.moved in
+    entered_moves P rest depth start c.args.entry v c.args.completion.now c.args.here.from_depth c.requires.place judged.0 c.enter.new.self c.visit.new.search
+    (ap (λ (J : Contents). J.limit) entered) (ap (λ (J : Contents). J.entries) entered) moved
+
+pub look_into-returns-in_ok-keep-in-Open-clause-moved : goal.look_into-returns-in_ok-keep-in-Open-clause-moved
+look_into-returns-in_ok-keep-in-Open-clause-moved t c =
+    let P = c.args.here.game.now in
+    let rest = c.args.here.rest.now in
+    let depth = c.args.here.depth in
+    let start = c.args.search.now in
+    let v = c.args.value in
+    let same = to_z-of_z w64 v c.ranges.value in
+    let judged = subst (IsJudged P rest depth start.bx c.args.window.now) c.in-Open.is c.in_ok-outcome.ensures.judged in
+    let entered = rw same at c.in_ok-entered-in-Open.ensures.entered in
+    let moved = rw c.in_ok-entered-in-Open.ensures.number at c.visit.ensures.moved in
+    entered_moves P rest depth start c.args.entry v c.args.completion.now c.args.here.from_depth c.requires.place judged.0 c.enter.new.self c.visit.new.search
+    (ap (λ (J : Contents). J.limit) entered) (ap (λ (J : Contents). J.entries) entered) moved
+
+pub enter-returns-then-is_enough-clause-outcome : goal.enter-returns-then-is_enough-clause-outcome
+enter-returns-then-is_enough-clause-outcome t c =
+    let recalled = rw c.in-Some.is at c.in_ok-recalled.ensures.recalled in
+    c.enough.ensures c.args.here.game.now [] [] c.args.here.rest.now c.args.here.depth c.args.search.now.bx c.args.window.now recalled (c.is_enough.ensures.0 c.if-is_enough.true)
+
+pub enter-returns-in_ok-outcome-in-Some-clause-outcome : goal.enter-returns-in_ok-outcome-in-Some-clause-outcome
+enter-returns-in_ok-outcome-in-Some-clause-outcome t c =
+    let recalled = rw c.in-Some.is at c.in_ok-recalled.ensures.recalled in
+    let outcome = rw (c.recalled.ensures.same, c.window-above.ensures) at c.in_ok-outcome-in-Some.ensures.outcome in
+    c.or_better.ensures c.args.here.game.now [] [] c.args.here.rest.now c.args.here.depth c.args.search.now.bx c.args.window.now c.requires.window recalled
+    (λ capped. let both : true ≡ false = sym (c.is_enough.ensures.1 capped) ∙ c.if-is_enough.false in cc) outcome
 
 pub child-enter-outcome-requires : goal.child-enter-outcome-requires
 child-enter-outcome-requires t c =
@@ -565,7 +605,7 @@ answers_in-answer_to-requires t c =
     let first = next_value c.args.completion.now in
     let place = value_place P depth start now c.args.entry c.args.completion.now values c.requires.place v before.moved (before.from, most) in
     let window = answer_window_proper P [] [] rest depth start.bx W first values.low v c.loop-value.answers c.requires.window before.answers in
-    (omega (arith), (c.requires.player, (place, (rw before.moved.same c.requires.place.place.completes, (c.requires.point, rw c.window-within.ensures window)))))
+    (omega (arith), (c.requires.player, (place, (rw before.moved.same c.requires.place.place.completes, (c.point_at-known.ensures P c.requires.lowest c.requires.point, rw c.window-within.ensures window)))))
 
 pub answers_in-returns-in_err-answer-clause-moved : goal.answers_in-returns-in_err-answer-clause-moved
 answers_in-returns-in_err-answer-clause-moved t c =
@@ -736,58 +776,58 @@ answers_in-returns-clause-moved t c =
           subst (Moved P (WentAmong c.args.entry values.low (values.high +ℤ pos 1)) start) (sym w.search-is) (rw w.settled.ensures.same moved)
     ]
 
-pub worst_answer-answers_in-requires : goal.worst_answer-answers_in-requires
-worst_answer-answers_in-requires t c =
+pub worst_from-answers_in-requires : goal.worst_from-answers_in-requires
+worst_from-answers_in-requires t c =
     let P = c.args.here.game.now in
     let rest = c.args.here.rest.now in
     let depth = c.args.here.depth in
     let start = c.args.search.now in
     let W = c.args.window.now in
     let range = range_at start.bx depth in
-    let from = c.start-start.result in
-    let fits_high : SFits w64 c.range-covered.result.high = search rules in
+    let from = c.args.lowest.now.value in
     let fits : SFits w64 from = search rules in
+    let fits_high : SFits w64 c.range-covered.result.high = search rules in
     let is_from = to_z-of_z w64 from fits in
     let is_high = to_z-of_z w64 c.range-covered.result.high fits_high in
-    let is : IsStart range from = subst (λ r. IsStart r from) c.range-covered.ensures c.start-start.ensures in
+    let is = c.requires.start in
     let place = run_place P depth start c.args.entry c.args.completion.now from c.requires.place is in
-    (omega (arith), rw (is_from, is_high, c.range-covered.ensures) (c.requires.player, (place, (c.requires.point, c.requires.window))))
+    (omega (arith), rw (is_from, is_high, c.range-covered.ensures) (c.requires.player, (place, (c.requires.lowest, (c.requires.point, c.requires.window)))))
 
-pub worst_answer-worst_before-requires : goal.worst_answer-worst_before-requires
-worst_answer-worst_before-requires t c =
+pub worst_from-worst_before-requires : goal.worst_from-worst_before-requires
+worst_from-worst_before-requires t c =
     let P = c.args.here.game.now in
     let rest = c.args.here.rest.now in
     let depth = c.args.here.depth in
     let start = c.args.search.now in
     let W = c.args.window.now in
     let range = range_at start.bx depth in
-    let from = c.start-start.result in
-    let fits_high : SFits w64 c.range-covered.result.high = search rules in
+    let from = c.args.lowest.now.value in
     let fits : SFits w64 from = search rules in
+    let fits_high : SFits w64 c.range-covered.result.high = search rules in
     let is_from = to_z-of_z w64 from fits in
     let is_high = to_z-of_z w64 c.range-covered.result.high fits_high in
-    let is : IsStart range from = subst (λ r. IsStart r from) c.range-covered.ensures c.start-start.ensures in
+    let is = c.requires.start in
     let next = c.answers_in.new.search in
     let moved = rw (is_from, is_high, c.range-covered.ensures) at c.answers_in.ensures.moved in
     let told = rw (is_from, is_high, c.range-covered.ensures) at c.in_ok-outcome.ensures.answered in
     let all = subst (AreAnswered P [] [] rest depth start.bx W (next_value c.args.completion.now) (record { low = from; high = range.high })) c.in-More.is told in
     let place = run_before P depth start next c.args.entry c.args.completion.now from _ c.requires.place is moved in
-    (omega (arith), rw is_from (c.requires.player, (place, (rw moved.same is, (rw moved.same all, (c.requires.point, c.requires.window))))))
+    (omega (arith), rw is_from (c.requires.player, (place, (rw moved.same is, (rw moved.same all, (c.requires.lowest, (c.requires.point, c.requires.window)))))))
 
-pub worst_answer-returns-in-More-clause-moved : goal.worst_answer-returns-in-More-clause-moved
-worst_answer-returns-in-More-clause-moved t c =
+pub worst_from-returns-in-More-clause-moved : goal.worst_from-returns-in-More-clause-moved
+worst_from-returns-in-More-clause-moved t c =
     let P = c.args.here.game.now in
     let rest = c.args.here.rest.now in
     let depth = c.args.here.depth in
     let start = c.args.search.now in
     let W = c.args.window.now in
     let range = range_at start.bx depth in
-    let from = c.start-start.result in
-    let fits_high : SFits w64 c.range-covered.result.high = search rules in
+    let from = c.args.lowest.now.value in
     let fits : SFits w64 from = search rules in
+    let fits_high : SFits w64 c.range-covered.result.high = search rules in
     let is_from = to_z-of_z w64 from fits in
     let is_high = to_z-of_z w64 c.range-covered.result.high fits_high in
-    let is : IsStart range from = subst (λ r. IsStart r from) c.range-covered.ensures c.start-start.ensures in
+    let is = c.requires.start in
     let next = c.answers_in.new.search in
     let moved = rw (is_from, is_high, c.range-covered.ensures) at c.answers_in.ensures.moved in
     moved_further P c.args.entry start next c.worst_before.new.search (moved_below P depth start next c.args.entry c.requires.place.stands _ _ moved) c.worst_before.ensures.moved
@@ -852,7 +892,7 @@ worst_before-answers_in-requires t c =
     let is_high = to_z-of_z w64 (from -ℤ pos 1) fits in
     let first = next_value c.args.completion.now in
     let window = answer_window_proper P [] [] rest depth start.bx W first from c.requires.later.next later c.requires.window c.requires.later.answers in
-    (omega (arith), rw (is_from, is_high, is_low, c.range-low.ensures) (c.requires.player, (c.requires.place, (c.requires.point, rw c.window-within.ensures window))))
+    (omega (arith), rw (is_from, is_high, is_low, c.range-low.ensures) (c.requires.player, (c.requires.place, (c.requires.lowest, (c.requires.point, rw c.window-within.ensures window)))))
 
 pub worst_before-returns-in_err-outcome-clause-moved : goal.worst_before-returns-in_err-outcome-clause-moved
 worst_before-returns-in_err-outcome-clause-moved t c =

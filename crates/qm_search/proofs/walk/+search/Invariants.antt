@@ -6,34 +6,40 @@ use Rattle.qm_search.specs.VisitSteps.{Moved, WentAmong}
 use Rattle.qm_search.proofs.walk.+search.Given as goal
 
 abbrev pub decreases-enter : goal.decreases-enter
-decreases-enter l = 7 * length l.here.rest.now + 6
+decreases-enter l = 10 * length l.here.rest.now + 9
+
+abbrev pub decreases-look_into : goal.decreases-look_into
+decreases-look_into l = 10 * length l.here.rest.now + 8
 
 abbrev pub decreases-visit : goal.decreases-visit
-decreases-visit l = 7 * length l.here.rest.now + 5
+decreases-visit l = 10 * length l.here.rest.now + 7
 
 abbrev pub decreases-best_choice : goal.decreases-best_choice
-decreases-best_choice l = 7 * length l.here.rest.now + 4
+decreases-best_choice l = 10 * length l.here.rest.now + 5
 
 abbrev pub decreases-worst_answer : goal.decreases-worst_answer
-decreases-worst_answer l = 7 * length l.here.rest.now + 4
+decreases-worst_answer l = 10 * length l.here.rest.now + 6
+
+abbrev pub decreases-worst_from : goal.decreases-worst_from
+decreases-worst_from l = 10 * length l.here.rest.now + 5
 
 abbrev pub decreases-best_before : goal.decreases-best_before
-decreases-best_before l = 7 * length l.here.rest.now + 3
+decreases-best_before l = 10 * length l.here.rest.now + 4
 
 abbrev pub decreases-worst_before : goal.decreases-worst_before
-decreases-worst_before l = 7 * length l.here.rest.now + 3
+decreases-worst_before l = 10 * length l.here.rest.now + 4
 
 abbrev pub decreases-choices_in : goal.decreases-choices_in
-decreases-choices_in l = 7 * length l.here.rest.now + 2
+decreases-choices_in l = 10 * length l.here.rest.now + 3
 
 abbrev pub decreases-answers_in : goal.decreases-answers_in
-decreases-answers_in l = 7 * length l.here.rest.now + 2
+decreases-answers_in l = 10 * length l.here.rest.now + 3
 
 abbrev pub decreases-answer_to : goal.decreases-answer_to
-decreases-answer_to l = 7 * length l.here.rest.now + 1
+decreases-answer_to l = 10 * length l.here.rest.now + 1
 
 abbrev pub decreases-child : goal.decreases-child
-decreases-child l = 7 * length l.here.rest.now
+decreases-child l = 10 * length l.here.rest.now
 
 abbrev pub invariant-choices_in-loop-choice : goal.invariant-choices_in-loop-choice
 invariant-choices_in-loop-choice l = record {
