@@ -78,8 +78,8 @@ class FollowTest(unittest.TestCase):
                 "illegal: uncertainty row 1, `budget: surgeEast + surgeWest <= 2`, can't hold (line 12)",
                 "surgeWest ? 0..2",
                 "courierEast = 0",
-                "courierWest = 1",
-                "value 9",
+                "courierWest = 2",
+                "value 12",
             ],
         )
 
