@@ -1,0 +1,8 @@
+//! The separate checker: evaluators of its own for each rule of a certificate's lines.
+#![tactic(auto)]
+
+mod ends;
+mod numbers;
+mod parts;
+mod rows;
+mod sums;
