@@ -1,28 +1,30 @@
 ghost use Rattle.std.specs.Prelude.{◌≡◌};
+ghost use Rattle.qm_math.specs.Fraction.{whole};
 ghost use Rattle.qm_trees.specs.Evaluation.{greatest_end_by, least_end_by};
 ghost use Rattle.qm_trees.specs.Closing.{is_empty_range};
 
-use qm_model::Range;
+use qm_frac::Frac;
+use qm_model::{Range, Term};
 
-/// The end of the range that makes a multiple of the coefficient least.
-pub(crate) fn least_end(coefficient: i128, range: Range) -> i64
-    ensures { result ≡ least_end_by coefficient range }
+/// The end of the range that makes the term least.
+pub(crate) fn least_end(term: Term, range: Range) -> Frac
+    ensures { result ≡ whole (least_end_by term.coef range) }
 {
-    if coefficient < 0 {
-        range.high
+    if term.coef < 0 {
+        Frac::whole(range.high)
     } else {
-        range.low
+        Frac::whole(range.low)
     }
 }
 
 /// The end that makes it greatest.
-pub(crate) fn greatest_end(coefficient: i128, range: Range) -> i64
-    ensures { result ≡ greatest_end_by coefficient range }
+pub(crate) fn greatest_end(term: Term, range: Range) -> Frac
+    ensures { result ≡ whole (greatest_end_by term.coef range) }
 {
-    if coefficient < 0 {
-        range.low
+    if term.coef < 0 {
+        Frac::whole(range.low)
     } else {
-        range.high
+        Frac::whole(range.high)
     }
 }
 

@@ -8,14 +8,14 @@ ghost use Rattle.qm_check.specs.Sums.{AreSums, less, plus_product, sum_of_var};
 use crate::rows::row_of;
 use qm_frac::{Frac, Leaves, over_one};
 use qm_model::{Problem, Row, Term};
-use qm_trees::Entry;
+use qm_trees::{Combo, Entry};
 
 /// The sum of a variable.
-fn sum_of(sums: &[Result<Frac, Leaves>], var: u32) -> Result<Frac, Leaves>
+pub(crate) fn sum_of(sums: &[Result<Frac, Leaves>], var: usize) -> Result<Frac, Leaves>
     requires { var < length sums.now }
     ensures { result ≡ sum_of_var sums.now var }
 {
-    sums[var as usize]
+    sums[var]
 }
 
 /// To the sum, a multiplier times the term's coefficient is added.
@@ -43,7 +43,7 @@ fn add_row(row: &Row, by: Frac, sums: &mut [Result<Frac, Leaves>])
     ensures { AreSums (λ var. and_then (sum_of_var sums.old var) (add_coefficients var (with_row by row.now ∷ []))) sums.new }
 {
     for term in row.terms.as_slice() {
-        sums[term.var as usize] = plus_product(sum_of(sums, term.var), by, *term);
+        sums[term.var as usize] = plus_product(sum_of(sums, term.var as usize), by, *term);
     }
 }
 
@@ -63,7 +63,7 @@ fn less_objective(problem: &Problem, sums: &mut [Result<Frac, Leaves>])
     ensures { AreSums (λ var. and_then (sum_of_var sums.old var) (less_objective problem.now true var)) sums.new }
 {
     for term in problem.terms.as_slice() {
-        sums[term.var as usize] = less(sum_of(sums, term.var), *term);
+        sums[term.var as usize] = less(sum_of(sums, term.var as usize), *term);
     }
 }
 
@@ -79,17 +79,16 @@ fn clear(sums: &mut [Result<Frac, Leaves>])
 pub(crate) fn combine(
     problem: &Problem,
     cuts: &[Row],
-    objective: bool,
-    entries: &[Entry],
+    combo: &Combo,
     sums: &mut [Result<Frac, Leaves>],
 )
-    requires rows { NameNarrow (length sums.old) problem.now cuts.now entries.now }
+    requires rows { NameNarrow (length sums.old) problem.now cuts.now combo.now.entries }
     requires objective { AreNarrow (length sums.old) problem.now.terms }
-    ensures { AreSums (λ var. and_then (add_coefficients var (weighted_rows problem.now cuts.now entries.now) zero) (less_objective problem.now objective var)) sums.new }
+    ensures { AreSums (λ var. and_then (add_coefficients var (weighted_rows problem.now cuts.now combo.now.entries) zero) (less_objective problem.now combo.now.objective var)) sums.new }
 {
     clear(sums);
-    add_rows(problem, cuts, entries, sums);
-    if objective {
+    add_rows(problem, cuts, combo.entries(), sums);
+    if combo.objective() {
         less_objective(problem, sums);
     }
 }
