@@ -1,0 +1,3 @@
+pub mod TermSums
+pub mod LeastEnds
+pub mod Narrow
