@@ -19,8 +19,10 @@ mod RowOrder
 mod RowsSaid
 mod TextLines
 mod TextSplits
+mod ThenLaws
 mod TreeNodes
 mod TreesRead
+mod Turns
 mod WholeRead
 mod WordCuts
 mod WordForms

@@ -11,3 +11,4 @@ pub mod SaidSteps
 pub mod Fits
 pub mod Tasks
 pub mod FirstFault
+pub mod Judgements

@@ -23,5 +23,8 @@ mod spelling;
 mod words;
 
 pub use fault::CertFault;
+pub use laws::certificates_are_judged_line_for_line;
 pub use laws::texts_in_form_are_those_of_certificates_that_fit;
+pub use laws::texts_without_fault_are_those_of_passing_certificates;
+pub use laws::trees_are_judged_line_for_line;
 pub use reader::read;
