@@ -5,6 +5,7 @@ mod Decoded
 mod EmptyRead
 mod EntryForms
 mod FineTexts
+mod JudgedEmpties
 mod LineForms
 mod LinesFit
 mod Moved
