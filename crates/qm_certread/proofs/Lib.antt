@@ -6,6 +6,7 @@ mod EmptyRead
 mod EntryForms
 mod FineTexts
 mod JudgedEmpties
+mod JudgedPolicies
 mod LineForms
 mod LinesFit
 mod Moved

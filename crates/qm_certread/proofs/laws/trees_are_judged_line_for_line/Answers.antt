@@ -1,4 +1,4 @@
-use Rattle.qm_certread.proofs.Turns.{parts_turn}
+use Rattle.qm_certread.proofs.JudgedPolicies.{policy_turn}
 use Rattle.qm_certread.proofs.JudgedEmpties.{empty_turn}
 use Rattle.qm_certread.proofs.laws.trees_are_judged_line_for_line.Goals as goal
 
