@@ -7,6 +7,7 @@ mod EntryForms
 mod FineTexts
 mod JudgedEmpties
 mod JudgedPolicies
+mod JudgedRefutations
 mod LineForms
 mod LinesFit
 mod Moved

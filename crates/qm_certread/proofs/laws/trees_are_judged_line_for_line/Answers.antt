@@ -1,5 +1,6 @@
 use Rattle.qm_certread.proofs.JudgedPolicies.{policy_turn}
 use Rattle.qm_certread.proofs.JudgedEmpties.{empty_turn}
+use Rattle.qm_certread.proofs.JudgedRefutations.{refute_turn}
 use Rattle.qm_certread.proofs.laws.trees_are_judged_line_for_line.Goals as goal
 
 pub returns-clause-policies : goal.returns-clause-policies
