@@ -8,6 +8,7 @@ mod FineTexts
 mod JudgedEmpties
 mod JudgedPolicies
 mod JudgedRefutations
+mod JudgedTexts
 mod LineForms
 mod LinesFit
 mod Moved

@@ -73,16 +73,13 @@ follow_due P (Ranges cover n next) node = refl
 
 -- ---- turns
 
-module _ (P : Problem) (cuts : List Row) (heads : List Head) (few : length (whole_vars P) < 2 ^ 32) (more : List ℕ) where
-  -- the nodes' lines, and more text behind them
-  abbrev pub judged : List Task → List Node → Verdict
-  judged tasks nodes = judge_lines first_style P cuts heads tasks (lines_of (text_of (map line_of nodes) ++ more))
-
-  abbrev next_judged : Task → List Task → List (List ℕ) → Said Node → Verdict
+module _ (P : Problem) (cuts : List Row) (heads : List Head) where
+  -- what is judged of a line by what it says, and of those behind it
+  abbrev pub next_judged : Task → List Task → List (List ℕ) → Said Node → Verdict
   next_judged task tasks lines (Ok node) = rule_at P cuts heads task node then judge_lines first_style P cuts heads (follow first_style P task node ++ tasks) lines
   next_judged task tasks lines (Err r) = Broken (rule_of r) 0
 
-  next_is : (task : Task) (tasks : List Task) (line next : List ℕ) (lines : List (List ℕ)) (said : Said Node) → said_at first_style P (due_of task) (words_of line) ≡ said
+  pub next_is : (task : Task) (tasks : List Task) (line next : List ℕ) (lines : List (List ℕ)) (said : Said Node) → said_at first_style P (due_of task) (words_of line) ≡ said
       → judge_lines first_style P cuts heads (task ∷ tasks) (line ∷ next ∷ lines) ≡ next_judged task tasks (next ∷ lines) said
   next_is task tasks line next lines said e = by (said_at first_style P (due_of task) (words_of line)) ∙ ap (next_judged task tasks (next ∷ lines)) e
     where
@@ -92,6 +89,11 @@ module _ (P : Problem) (cuts : List Row) (heads : List Head) (few : length (whol
       ]) ≡ next_judged task tasks (next ∷ lines) s
       by (Ok node) = refl
       by (Err r) = refl
+
+module _ (P : Problem) (cuts : List Row) (heads : List Head) (few : length (whole_vars P) < 2 ^ 32) (more : List ℕ) where
+  -- the nodes' lines, and more text behind them
+  abbrev pub judged : List Task → List Node → Verdict
+  judged tasks nodes = judge_lines first_style P cuts heads tasks (lines_of (text_of (map line_of nodes) ++ more))
 
   -- one node's line, and then the others
   pub node_judged : (task : Task) (tasks : List Task) (node : Node) (nodes : List Node) → FitsAt P (due_of task) node → IsClean (due_of task)
@@ -104,7 +106,7 @@ module _ (P : Problem) (cuts : List Row) (heads : List Head) (few : length (whol
       ap lines_of (append_assoc (line_text (line_of node)) (text_of (map line_of nodes)) more) ∙ line_first_so (line_of node) rest line ∙ ap (λ ls. joined 32 (line_of node) ∷ ls) others.2 in
       let says : said_at first_style P (due_of task) (words_of (joined 32 (line_of node))) ≡ Ok node = ap (said_at first_style P (due_of task)) (again (line_of node) line) ∙ node_said P few (due_of task) node fits in
       ap (judge_lines first_style P cuts heads (task ∷ tasks)) pieces
-      ∙ next_is task tasks (joined 32 (line_of node)) others.0 others.1 (Ok node) says
+      ∙ next_is P cuts heads task tasks (joined 32 (line_of node)) others.0 others.1 (Ok node) says
       ∙ ap (λ ls. rule_at P cuts heads task node then judge_lines first_style P cuts heads (follow first_style P task node ++ tasks) ls) (sym others.2)
 
   -- nodes that are judged so where these tasks are due, and what stands behind them fits what is due there
