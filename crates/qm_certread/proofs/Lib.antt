@@ -14,6 +14,7 @@ mod LinesFit
 mod Moved
 mod NextLines
 mod NodePieces
+mod PassingTexts
 mod PolicyRead
 mod Positions
 mod Quotients
