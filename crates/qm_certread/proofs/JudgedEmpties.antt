@@ -63,6 +63,19 @@ if_false t a b e = ap (λ (s : Bool). if s then a else b) e
 pub combination_formed : (combo : Combination) → IsCombination combo → are_well_formed combo.entries ≡ true
 combination_formed combo h = (well_formed_says combo.entries).1 (h.0, λ k d inside. (h.1 k d inside).1)
 
+-- what a tree's nodes are by its first one
+abbrev pub layer_nodes : empties.Layer → List Node
+layer_nodes z = empty_step (map-Empty EmptyTree EmptyPart (List Node) (List Node) empty_nodes empty_part_nodes z)
+
+pub by_layer : (tree : EmptyTree) → empty_nodes tree ≡ layer_nodes (out-Empty tree)
+by_layer tree = fold_out-Empty (List Node) (List Node) empty_step empty_part_step tree
+
+pub part_by_layer : (part : EmptyPart) → empty_part_nodes part ≡ Part (range_of part) ∷ empty_nodes (below_of part)
+part_by_layer part = fold_out-EmptyPart (List Node) (List Node) empty_step empty_part_step part
+
+pub counted : (var : ℕ) (all : List EmptyPart) → Split var (length all) ∷ in_turn (map empty_part_nodes all) ≡ layer_nodes (none.Split var all)
+counted var all = ap (λ (n : ℕ). Split var n ∷ in_turn (map empty_part_nodes all)) (sym (length-map all empty_part_nodes))
+
 -- ---- trees
 
 module _ (P : Problem) (cuts : List Row) (heads : List Head) (few : length (whole_vars P) < 2 ^ 32) (more : List ℕ) where
@@ -90,19 +103,6 @@ module _ (P : Problem) (cuts : List Row) (heads : List Head) (few : length (whol
         let formed : not combo.objective && are_well_formed combo.entries ≡ true = ap₂ ◌&&◌ (ap not plain.0) (combination_formed combo plain.1) in
         same_turn P cuts heads few more (Empty depth bx ∷ []) (Close combo ∷ []) test (judge_close P bx combo)
         (sym (if_true (not combo.objective && are_well_formed combo.entries) test (Broken broken.Text 0) formed)) alone)
-
-  -- what a tree's nodes are by its first one
-  abbrev layer_nodes : empties.Layer → List Node
-  layer_nodes z = empty_step (map-Empty EmptyTree EmptyPart (List Node) (List Node) empty_nodes empty_part_nodes z)
-
-  by_layer : (tree : EmptyTree) → empty_nodes tree ≡ layer_nodes (out-Empty tree)
-  by_layer tree = fold_out-Empty (List Node) (List Node) empty_step empty_part_step tree
-
-  part_by_layer : (part : EmptyPart) → empty_part_nodes part ≡ Part (range_of part) ∷ empty_nodes (below_of part)
-  part_by_layer part = fold_out-EmptyPart (List Node) (List Node) empty_step empty_part_step part
-
-  counted : (var : ℕ) (all : List EmptyPart) → Split var (length all) ∷ in_turn (map empty_part_nodes all) ≡ layer_nodes (none.Split var all)
-  counted var all = ap (λ (n : ℕ). Split var n ∷ in_turn (map empty_part_nodes all)) (sym (length-map all empty_part_nodes))
 
   -- a split may stand at a later place too, up to its own variable
   later_turn : (depth var : ℕ) (bx : List Range) (count : ℕ) (nodes : List Node) (v : Verdict) → (var ≡ depth → ⊥) → Turn (depth + 1) bx (Split var count ∷ nodes) v → Turn depth bx (Split var count ∷ nodes) v

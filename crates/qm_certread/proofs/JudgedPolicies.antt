@@ -73,6 +73,25 @@ answer_fits P None n (a, is, h) = let bad : Leaf a ≡ Answer n = is in absurd c
 answer_fits P (Some Exists) n (a, is, h) = let bad : Choose a ≡ Answer n = is in absurd cc
 answer_fits P (Some Universal) n h = refl
 
+-- ---- nodes by the first one
+
+abbrev pub layer_nodes : policies.Layer → List Node
+layer_nodes z = policy_step (map-Policy Under Moving PolicyPart (List Node) (List Node) (List Node) below_nodes policy_nodes policy_part_nodes z)
+
+pub by_layer : (policy : Moving) → policy_nodes policy ≡ layer_nodes (out-Policy policy)
+by_layer policy = fold_out-Policy (List Node) (List Node) (List Node) below_step policy_step policy_part_step policy
+
+abbrev pub under_nodes : BelowLayer → List Node
+under_nodes z = below_step (map-Below Under Moving PolicyPart (List Node) (List Node) (List Node) below_nodes policy_nodes policy_part_nodes z)
+
+pub part_by_layer : (part : PolicyPart) → policy_part_nodes part ≡ Part (range_of part) ∷ under_nodes (below_of part)
+part_by_layer part =
+    fold_out-PolicyPart (List Node) (List Node) (List Node) below_step policy_step policy_part_step part
+    ∙ ap (λ (ns : List Node). Part (range_of part) ∷ ns) (fold_out-Below (List Node) (List Node) (List Node) below_step policy_step policy_part_step (out-PolicyPart part).below)
+
+pub counted : (all : List PolicyPart) → Answer (length all) ∷ in_turn (map policy_part_nodes all) ≡ layer_nodes (answer.Answer all)
+counted all = ap (λ (n : ℕ). Answer n ∷ in_turn (map policy_part_nodes all)) (sym (length-map all policy_part_nodes))
+
 module _ (P : Problem) (cuts : List Row) (heads : List Head) (few : length (whole_vars P) < 2 ^ 32) (more : List ℕ) (value : Fraction) where
   abbrev Turn : ℕ → List Range → List Node → Verdict → Type 0
   Turn depth bx nodes v = IsTurn P cuts heads few more (Policy value depth bx ∷ []) nodes v
@@ -102,25 +121,6 @@ module _ (P : Problem) (cuts : List Row) (heads : List Head) (few : length (whol
             ∙ sym (node_judged P cuts heads few more (Policy value depth bx) later node (ns ++ behind) move tt)
             ∙ rest.same;
       }
-
-  -- ---- nodes by the first one
-
-  abbrev layer_nodes : policies.Layer → List Node
-  layer_nodes z = policy_step (map-Policy Under Moving PolicyPart (List Node) (List Node) (List Node) below_nodes policy_nodes policy_part_nodes z)
-
-  by_layer : (policy : Moving) → policy_nodes policy ≡ layer_nodes (out-Policy policy)
-  by_layer policy = fold_out-Policy (List Node) (List Node) (List Node) below_step policy_step policy_part_step policy
-
-  abbrev under_nodes : BelowLayer → List Node
-  under_nodes z = below_step (map-Below Under Moving PolicyPart (List Node) (List Node) (List Node) below_nodes policy_nodes policy_part_nodes z)
-
-  part_by_layer : (part : PolicyPart) → policy_part_nodes part ≡ Part (range_of part) ∷ under_nodes (below_of part)
-  part_by_layer part =
-      fold_out-PolicyPart (List Node) (List Node) (List Node) below_step policy_step policy_part_step part
-      ∙ ap (λ (ns : List Node). Part (range_of part) ∷ ns) (fold_out-Below (List Node) (List Node) (List Node) below_step policy_step policy_part_step (out-PolicyPart part).below)
-
-  counted : (all : List PolicyPart) → Answer (length all) ∷ in_turn (map policy_part_nodes all) ≡ layer_nodes (answer.Answer all)
-  counted all = ap (λ (n : ℕ). Answer n ∷ in_turn (map policy_part_nodes all)) (sym (length-map all policy_part_nodes))
 
   on_layer : (depth : ℕ) (bx : List Range) (z : policies.Layer) (v : Verdict) → Turn depth bx (layer_nodes z) v → BelowTurn depth bx (layer_nodes z) v
   on_layer depth bx (answer.Choose w below) v turn = on_turn depth bx (Choose w) (policy_nodes below) v (λ e. (let bad : Fixed illegal_line ≡ Choose w = e in cc)) turn

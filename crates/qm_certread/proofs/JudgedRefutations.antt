@@ -35,6 +35,20 @@ use Rattle.qm_certread.proofs.Turns.{IsTurn, covering, known_turn, last_turn, no
 use Rattle.qm_certread.proofs.JudgedEmpties.{combination_formed, head_at, if_true, none_at, rest_at}
 use Rattle.qm_certread.proofs.JudgedPolicies.{player_here, player_nowhere, same_player, some_player}
 
+-- ---- nodes by the first one
+
+abbrev pub layer_nodes : refutations.Layer → List Node
+layer_nodes z = refute_step (map-Refute Refutation RefutePart (List Node) (List Node) refute_nodes refute_part_nodes z)
+
+pub by_layer : (tree : Refutation) → refute_nodes tree ≡ layer_nodes (out-Refute tree)
+by_layer tree = fold_out-Refute (List Node) (List Node) refute_step refute_part_step tree
+
+pub part_by_layer : (part : RefutePart) → refute_part_nodes part ≡ Part (range_of part) ∷ refute_nodes (below_of part)
+part_by_layer part = fold_out-RefutePart (List Node) (List Node) refute_step refute_part_step part
+
+pub counted : (all : List RefutePart) → Over (length all) ∷ in_turn (map refute_part_nodes all) ≡ layer_nodes (why.Over all)
+counted all = ap (λ (n : ℕ). Over n ∷ in_turn (map refute_part_nodes all)) (sym (length-map all refute_part_nodes))
+
 module _ (P : Problem) (cuts : List Row) (heads : List Head) (few : length (whole_vars P) < 2 ^ 32) (more : List ℕ) (G : Goal) where
   abbrev Turn : ℕ → List Range → List Node → Verdict → Type 0
   Turn depth bx nodes v = IsTurn P cuts heads few more (Refute G depth bx ∷ []) nodes v
@@ -56,20 +70,6 @@ module _ (P : Problem) (cuts : List Row) (heads : List Head) (few : length (whol
   pick_fits depth v completion (inl (inside, (n, is, h))) = let bad : Over n ≡ Pick v completion = is in absurd cc
   pick_fits depth v completion (inr (inl (player, (w, whole, (cs, is, h))))) = let same : cs ≡ completion = cc in (player, subst (AreValues (universal_count (drop (depth + 1) (whole_vars P)))) same h)
   pick_fits depth v completion (inr (inr (c, is, h))) = let bad : Close c ≡ Pick v completion = is in absurd cc
-
-  -- ---- nodes by the first one
-
-  abbrev layer_nodes : refutations.Layer → List Node
-  layer_nodes z = refute_step (map-Refute Refutation RefutePart (List Node) (List Node) refute_nodes refute_part_nodes z)
-
-  by_layer : (tree : Refutation) → refute_nodes tree ≡ layer_nodes (out-Refute tree)
-  by_layer tree = fold_out-Refute (List Node) (List Node) refute_step refute_part_step tree
-
-  part_by_layer : (part : RefutePart) → refute_part_nodes part ≡ Part (range_of part) ∷ refute_nodes (below_of part)
-  part_by_layer part = fold_out-RefutePart (List Node) (List Node) refute_step refute_part_step part
-
-  counted : (all : List RefutePart) → Over (length all) ∷ in_turn (map refute_part_nodes all) ≡ layer_nodes (why.Over all)
-  counted all = ap (λ (n : ℕ). Over n ∷ in_turn (map refute_part_nodes all)) (sym (length-map all refute_part_nodes))
 
   -- ---- closing
 

@@ -5,6 +5,10 @@ mod Decoded
 mod EmptyRead
 mod EntryForms
 mod FineTexts
+mod FittingEmpties
+mod FittingPolicies
+mod FittingRefutations
+mod Fittings
 mod JudgedEmpties
 mod JudgedPolicies
 mod JudgedRefutations
@@ -14,6 +18,7 @@ mod LinesFit
 mod Moved
 mod NextLines
 mod NodePieces
+mod PassingFits
 mod PassingTexts
 mod PolicyRead
 mod Positions

@@ -297,7 +297,7 @@ module _ (P : Problem) (few : length (whole_vars P) < 2 ^ 32) where
       let num = h.num_fits in
       record { positive = h.positive; lowest = ap (λ n. gcd_of n a.den) (sym size) ∙ h.lowest; num_fits = omega (arith, size); den_fits = h.den_fits }
 
-  frac_claimed : (sense : Sense) (a : Fraction) → IsFrac (claimed sense a) → IsFrac a
+  pub frac_claimed : (sense : Sense) (a : Fraction) → IsFrac (claimed sense a) → IsFrac a
   frac_claimed Max a h = h
   frac_claimed Min a h = frac_turned a h
 

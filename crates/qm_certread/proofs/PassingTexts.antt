@@ -46,7 +46,7 @@ use Rattle.qm_certread.specs.Reading.{IsInForm, IsOfCertificate}
 use Rattle.qm_certread.specs.Fits.{AreValues, Fits, FitsAt}
 use Rattle.qm_certread.specs.Tasks.{Task, Claimed, due_of, follow}
 use Rattle.qm_certread.specs.FirstFault.{first_fault, is_play, judge_lines, rule_at}
-use Rattle.qm_certread.specs.Judgements.{HasNoFault, IsOfPassing, judge_certificate, judge_play, judge_refuted}
+use Rattle.qm_certread.specs.Judgements.{HasNoFault, IsOfPassingFit, judge_certificate, judge_play, judge_refuted}
 use Rattle.qm_certread.proofs.FineTexts.{few_whole, formed}
 use Rattle.qm_certread.proofs.Moved.{step_of}
 use Rattle.qm_certread.proofs.NodePieces.{fits_formed}
@@ -194,14 +194,14 @@ module _ (P : Problem) (sound : IsSound P) where
 
   -- ---- texts
 
-  of_passing : (text : List ℕ) → HasNoFault P text → IsOfPassing P text
+  of_passing : (text : List ℕ) → HasNoFault P text → IsOfPassingFit P text
   of_passing text none =
       let made : IsOfCertificate P text = formed P text sound (in_form P text none) in
       let judged : IsFine (judge_certificate P made.0) = subst IsFine (ap (first_fault P) (sym made.2) ∙ certificate_law P sound made.0 made.1) none in
       (made.0, made.1, passes made.0 made.1 judged, made.2)
 
-  passing_has_none : (text : List ℕ) → IsOfPassing P text → HasNoFault P text
+  passing_has_none : (text : List ℕ) → IsOfPassingFit P text → HasNoFault P text
   passing_has_none text (c, fits, right, is) = subst IsFine (sym (certificate_law P sound c fits) ∙ ap (first_fault P) is) (fine c right)
 
-  pub no_fault_law : (text : List ℕ) → HasNoFault P text ↔ IsOfPassing P text
+  pub no_fault_law : (text : List ℕ) → HasNoFault P text ↔ IsOfPassingFit P text
   no_fault_law text = (of_passing text, passing_has_none text)

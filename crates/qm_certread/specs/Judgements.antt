@@ -76,9 +76,13 @@ CertificatesAreJudged P = (certificate : Certificate) → Fits P certificate →
 
 -- ---- texts without fault
 
--- the text is that of a certificate that fits the game and passes
+-- the text is that of a certificate that passes
 abbrev pub IsOfPassing : Problem → List ℕ → Type 0
-IsOfPassing P text = (certificate : Certificate) × Fits P certificate × Passes P certificate × (certificate_text P certificate ≡ text)
+IsOfPassing P text = (certificate : Certificate) × Passes P certificate × (certificate_text P certificate ≡ text)
+
+-- and that fits the game
+abbrev pub IsOfPassingFit : Problem → List ℕ → Type 0
+IsOfPassingFit P text = (certificate : Certificate) × Fits P certificate × Passes P certificate × (certificate_text P certificate ≡ text)
 
 abbrev pub HasNoFault : Problem → List ℕ → Type 0
 HasNoFault P text = IsFine (first_fault P text)
