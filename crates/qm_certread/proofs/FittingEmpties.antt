@@ -13,7 +13,6 @@ use Rattle.qm_model.specs.declared.range.Range.{Range}
 use Rattle.qm_model.specs.declared.variable.Player.TheVariants.{All as Universal}
 use Rattle.qm_model.specs.declared.variable.Var.{Var}
 use Rattle.qm_model.specs.declared.game.Problem.{Problem}
-use Rattle.qm_model.specs.Boxes.{Cover}
 use Rattle.qm_model.specs.Plays.{is_universal, whole_vars}
 use Rattle.qm_model.specs.Ranges.{range_at}
 use Rattle.qm_model.specs.Sound.{IsSound}
@@ -28,12 +27,11 @@ use Rattle.qm_trees.specs.EmptyJudgement.{all_uncertain, below_of, is_uncertain,
 use Rattle.qm_trees.specs.EmptyRight.{IsRightClose, IsRightEmpty, IsRightEnd, IsRightSplit}
 use Rattle.qm_trees.specs.RefuteRight.{AreNamed}
 use Rattle.qm_certfile.specs.Numbers.{number_of_row}
-use Rattle.qm_certfile.proofs.NearRanges.{AreNear, cover_near, near_at, near_set}
 use Rattle.qm_certread.specs.Nodes.{Node, Close, Split}
 use Rattle.qm_certread.specs.Dues as due
 use Rattle.qm_certread.specs.NodesOf.{empty_nodes, empty_part_nodes, in_turn}
 use Rattle.qm_certread.specs.Fits.{FitsAt, IsCombination, IsCount, IsRowEntry}
-use Rattle.qm_certread.proofs.Fittings.{Fitting, few_parts, node_fits, none_fit, parts_fit}
+use Rattle.qm_certread.proofs.Fittings.{AreTyped, Fitting, few_parts, node_fits, none_fit, parts_fit}
 use Rattle.qm_certread.proofs.JudgedEmpties.{by_layer, counted, head_at, layer_nodes, part_by_layer, rest_at}
 
 -- ---- entries
@@ -75,40 +73,39 @@ module _ (P : Problem) (sound : IsSound P) where
   later_fits depth var count nodes fits later behind fit = let all = fits later behind fit in (weaker depth var count all.0, all.1)
 
   module _ (x : Var) (xs : List Var) (depth : ℕ) (at : drop depth (whole_vars P) ≡ x ∷ xs) (IsRight : List Range → EmptyTree → Type 0)
-      (below : (bx : List Range) (tree : EmptyTree) → AreNear bx → IsRight bx tree → length (empty_nodes tree) < 2 ^ 32 → Fitting P (due.Empty (depth + 1) ∷ []) (empty_nodes tree)) where
-    here_fits : (bx : List Range) (all : List EmptyPart) → AreNear bx → x.player ≡ Universal → Cover (range_at bx depth) (map range_of all)
-        → All (λ part. IsRight (slice_set bx depth (range_of part)) (below_of part)) all → length (Split depth (length all) ∷ in_turn (map empty_part_nodes all)) < 2 ^ 32
+      (below : (bx : List Range) (tree : EmptyTree) → IsRight bx tree → length (empty_nodes tree) < 2 ^ 32 → AreTyped (empty_nodes tree) → Fitting P (due.Empty (depth + 1) ∷ []) (empty_nodes tree)) where
+    here_fits : (bx : List Range) (all : List EmptyPart) → x.player ≡ Universal → All (λ part. IsRight (slice_set bx depth (range_of part)) (below_of part)) all
+        → length (Split depth (length all) ∷ in_turn (map empty_part_nodes all)) < 2 ^ 32 → AreTyped (in_turn (map empty_part_nodes all))
         → Fitting P (due.Empty depth ∷ []) (Split depth (length all) ∷ in_turn (map empty_part_nodes all))
-    here_fits bx all near player cover right small =
+    here_fits bx all player right small typed =
         let nodes = λ (part : EmptyPart). empty_nodes (below_of part) in
-        let ends = (cover_near range_of (range_at bx depth) all cover (near_at bx depth near)).0 in
         let count = few_parts P (due.Empty (depth + 1)) range_of nodes empty_part_nodes part_by_layer all in
         let found = (head_at (whole_vars P) depth x xs at).0 in
         node_fits P (due.Empty depth) (Split depth (length all)) (in_turn (map empty_part_nodes all)) (inl (depth, (x, found, is_for_all x player, omega arith), (length all, refl, omega (arith, count, small))))
-        (parts_fit P (due.Empty (depth + 1)) range_of nodes empty_part_nodes part_by_layer all ends
-        (λ k d h. λ few. below (slice_set bx depth (range_of (get_or all k d))) (below_of (get_or all k d)) (near_set bx depth (range_of (get_or all k d)) near (ends k d h)) (right k d h) few)
-        (omega (arith, small)))
+        (parts_fit P (due.Empty (depth + 1)) range_of nodes empty_part_nodes part_by_layer all
+        (λ k d h. λ few part. below (slice_set bx depth (range_of (get_or all k d))) (below_of (get_or all k d)) (right k d h) few part) (omega (arith, small)) typed)
 
-    split_fits : (bx : List Range) (tree : EmptyTree) (layer : empties.Layer) → layer_nodes layer ≡ empty_nodes tree → AreNear bx → IsRightSplit P x depth IsRight bx tree layer
-        → length (layer_nodes layer) < 2 ^ 32 → Fitting P (due.Empty depth ∷ []) (layer_nodes layer)
-    split_fits bx tree (none.Close combo) whole near right small = close_fits depth bx combo right
-    split_fits bx tree (none.Split var all) whole near (inl (same, player, cover, right)) small =
+    split_fits : (bx : List Range) (tree : EmptyTree) (layer : empties.Layer) → layer_nodes layer ≡ empty_nodes tree → IsRightSplit P x depth IsRight bx tree layer
+        → length (layer_nodes layer) < 2 ^ 32 → AreTyped (layer_nodes layer) → Fitting P (due.Empty depth ∷ []) (layer_nodes layer)
+    split_fits bx tree (none.Close combo) whole right small typed = close_fits depth bx combo right
+    split_fits bx tree (none.Split var all) whole (inl (same, player, cover, right)) small typed =
         let parts = in_turn (map empty_part_nodes all) in
         let few : length (Split depth (length all) ∷ parts) < 2 ^ 32 = small in
-        subst (λ (l : List Node). Fitting P (due.Empty depth ∷ []) l) (ap (λ (n : ℕ). Split n (length all) ∷ parts) (sym same) ∙ counted var all) (here_fits bx all near player cover right few)
-    split_fits bx tree (none.Split var all) whole near (inr (apart, right)) small =
+        subst (λ (l : List Node). Fitting P (due.Empty depth ∷ []) l) (ap (λ (n : ℕ). Split n (length all) ∷ parts) (sym same) ∙ counted var all) (here_fits bx all player right few typed.1.1)
+    split_fits bx tree (none.Split var all) whole (inr (apart, right)) small typed =
         let count = length (map empty_part_nodes all) in
         later_fits depth var count (in_turn (map empty_part_nodes all))
-        (subst (λ (l : List Node). Fitting P (due.Empty (depth + 1) ∷ []) l) (sym whole) (below bx tree near right (subst (λ (l : List Node). length l < 2 ^ 32) whole small)))
+        (subst (λ (l : List Node). Fitting P (due.Empty (depth + 1) ∷ []) l) (sym whole)
+        (below bx tree right (subst (λ (l : List Node). length l < 2 ^ 32) whole small) (subst AreTyped whole typed)))
 
   end_fits : (depth : ℕ) (bx : List Range) (layer : empties.Layer) → IsRightEnd P bx layer → Fitting P (due.Empty depth ∷ []) (layer_nodes layer)
   end_fits depth bx (none.Close combo) right = close_fits depth bx combo right
   end_fits depth bx (none.Split var all) right = absurd right
 
-  pub empty_fits : (xs : List Var) (depth : ℕ) (bx : List Range) (tree : EmptyTree) → drop depth (whole_vars P) ≡ xs → AreNear bx → IsRightEmpty P xs depth bx tree → length (empty_nodes tree) < 2 ^ 32
-      → Fitting P (due.Empty depth ∷ []) (empty_nodes tree)
-  empty_fits [] depth bx tree at near right small = subst (λ (l : List Node). Fitting P (due.Empty depth ∷ []) l) (sym (by_layer tree)) (end_fits depth bx (out-Empty tree) right)
-  empty_fits (x ∷ xs) depth bx tree at near right small =
+  pub empty_fits : (xs : List Var) (depth : ℕ) (bx : List Range) (tree : EmptyTree) → drop depth (whole_vars P) ≡ xs → IsRightEmpty P xs depth bx tree → length (empty_nodes tree) < 2 ^ 32
+      → AreTyped (empty_nodes tree) → Fitting P (due.Empty depth ∷ []) (empty_nodes tree)
+  empty_fits [] depth bx tree at right small typed = subst (λ (l : List Node). Fitting P (due.Empty depth ∷ []) l) (sym (by_layer tree)) (end_fits depth bx (out-Empty tree) right)
+  empty_fits (x ∷ xs) depth bx tree at right small typed =
       subst (λ (l : List Node). Fitting P (due.Empty depth ∷ []) l) (sym (by_layer tree))
-      (split_fits x xs depth at (IsRightEmpty P xs (depth + 1)) (λ b t n r s. empty_fits xs (depth + 1) b t (rest_at (whole_vars P) depth x xs at) n r s) bx tree (out-Empty tree) (sym (by_layer tree)) near right
-      (subst (λ (l : List Node). length l < 2 ^ 32) (by_layer tree) small))
+      (split_fits x xs depth at (IsRightEmpty P xs (depth + 1)) (λ b t r s y. empty_fits xs (depth + 1) b t (rest_at (whole_vars P) depth x xs at) r s y) bx tree (out-Empty tree) (sym (by_layer tree)) right
+      (subst (λ (l : List Node). length l < 2 ^ 32) (by_layer tree) small) (subst AreTyped (by_layer tree) typed))

@@ -2,13 +2,11 @@
 use Rattle.std.proofs.Common.{◌≡◌, ℕ, suc, ◌+◌, ◌<◌, ◌≤◌, ◌^◌, ℤ, List, [], ◌∷◌, ◌++◌, get_or, length, map, Option, None, Some, All, inl, inr, refl, sym, ap, ◌∙◌, subst, drop, arith}
 use Rattle.std.specs.Prelude.{slice_set}
 use Rattle.qm_math.specs.Fraction.{Fraction}
-use Rattle.qm_math.specs.Ranges.{IsBetween}
 use Rattle.qm_model.specs.declared.range.Range.{Range}
 use Rattle.qm_model.specs.declared.variable.Player.{Player}
 use Rattle.qm_model.specs.declared.variable.Player.TheVariants.{Exists, All as Universal}
 use Rattle.qm_model.specs.declared.variable.Var.{Var}
 use Rattle.qm_model.specs.declared.game.Problem.{Problem}
-use Rattle.qm_model.specs.Boxes.{Cover}
 use Rattle.qm_model.specs.Plays.{whole_vars}
 use Rattle.qm_model.specs.Points.{continuous_vars}
 use Rattle.qm_model.specs.Ranges.{range_at, single}
@@ -21,7 +19,6 @@ use Rattle.qm_trees.specs.PolicyJudgement as policies
 use Rattle.qm_trees.specs.PolicyJudgement.{BelowLayer, below_of, range_of}
 use Rattle.qm_trees.specs.PolicyRight.{IsRightBelow, IsRightEnd, IsRightMove, IsRightPolicy}
 use Rattle.qm_trees.proofs.LeafLines.{AreInBounds-length}
-use Rattle.qm_certfile.proofs.NearRanges.{AreNear, between_near, cover_near, near_at, near_set, whole_of}
 use Rattle.qm_certread.specs.Nodes.{Node, Answer, Choose, Fixed, Leaf}
 use Rattle.qm_certread.specs.Dues.{illegal_line}
 use Rattle.qm_certread.specs.Dues as due
@@ -29,7 +26,7 @@ use Rattle.qm_certread.specs.Forms.{player_at}
 use Rattle.qm_certread.specs.NodesOf.{empty_nodes, in_turn, policy_nodes, policy_part_nodes}
 use Rattle.qm_certread.specs.Fits.{AreFit, FitsMove}
 use Rattle.qm_certread.proofs.Rebuilt.{move_after}
-use Rattle.qm_certread.proofs.Fittings.{Fitting, few_parts, node_fits, none_fit, parts_fit}
+use Rattle.qm_certread.proofs.Fittings.{AreTyped, Fitting, few_parts, node_fits, none_fit, parts_fit}
 use Rattle.qm_certread.proofs.FittingEmpties.{empty_fits}
 use Rattle.qm_certread.proofs.JudgedEmpties.{rest_at}
 use Rattle.qm_certread.proofs.JudgedPolicies.{by_layer, counted, layer_nodes, part_by_layer, player_here, player_nowhere, under_nodes}
@@ -48,13 +45,13 @@ module _ (P : Problem) (sound : IsSound P) where
   on_layer_fits depth (answer.Leaf point) fits = on_fits depth (Leaf point) [] fits
 
   module _ (depth : ℕ) (IsRight : List Range → Moving → Type 0)
-      (below : (bx : List Range) (policy : Moving) → AreNear bx → IsRight bx policy → length (policy_nodes policy) < 2 ^ 32 → Fitting P (due.Policy depth ∷ []) (policy_nodes policy)) where
-    under_fits : (bx : List Range) (z : BelowLayer) → AreNear bx → IsRightBelow P IsRight bx z → length (under_nodes z) < 2 ^ 32 → Fitting P (due.Below depth ∷ []) (under_nodes z)
-    under_fits bx (answer.On policy) near right small =
+      (below : (bx : List Range) (policy : Moving) → IsRight bx policy → length (policy_nodes policy) < 2 ^ 32 → AreTyped (policy_nodes policy) → Fitting P (due.Policy depth ∷ []) (policy_nodes policy)) where
+    under_fits : (bx : List Range) (z : BelowLayer) → IsRightBelow P IsRight bx z → length (under_nodes z) < 2 ^ 32 → AreTyped (under_nodes z) → Fitting P (due.Below depth ∷ []) (under_nodes z)
+    under_fits bx (answer.On policy) right small typed =
         subst (λ (l : List Node). Fitting P (due.Below depth ∷ []) l) (sym (by_layer policy))
-        (on_layer_fits depth (out-Policy policy) (subst (λ (l : List Node). Fitting P (due.Policy depth ∷ []) l) (by_layer policy) (below bx policy near right small)))
-    under_fits bx (answer.Illegal tree) near right small =
-        node_fits P (due.Below depth) (Fixed illegal_line) (empty_nodes tree) (inl refl) (empty_fits P sound (whole_vars P) 0 bx tree refl near right (omega (arith, small)))
+        (on_layer_fits depth (out-Policy policy) (subst (λ (l : List Node). Fitting P (due.Policy depth ∷ []) l) (by_layer policy) (below bx policy right small typed)))
+    under_fits bx (answer.Illegal tree) right small typed =
+        node_fits P (due.Below depth) (Fixed illegal_line) (empty_nodes tree) (inl refl) (empty_fits P sound (whole_vars P) 0 bx tree refl right (omega (arith, small)) typed)
 
   -- ---- moves
 
@@ -66,38 +63,35 @@ module _ (P : Problem) (sound : IsSound P) where
   end_fits v depth bx at (answer.Answer all) right = absurd right
 
   module _ (x : Var) (depth : ℕ) (at : player_at P depth ≡ Some x.player) (IsRight : List Range → Moving → Type 0)
-      (below : (bx : List Range) (policy : Moving) → AreNear bx → IsRight bx policy → length (policy_nodes policy) < 2 ^ 32 → Fitting P (due.Policy (depth + 1) ∷ []) (policy_nodes policy)) where
-    answer_fits : (bx : List Range) (all : List PolicyPart) → AreNear bx → x.player ≡ Universal → Cover (range_at bx depth) (map range_of all)
-        → All (λ part. IsRightBelow P IsRight (slice_set bx depth (range_of part)) (below_of part)) all → length (Answer (length all) ∷ in_turn (map policy_part_nodes all)) < 2 ^ 32
+      (below : (bx : List Range) (policy : Moving) → IsRight bx policy → length (policy_nodes policy) < 2 ^ 32 → AreTyped (policy_nodes policy) → Fitting P (due.Policy (depth + 1) ∷ []) (policy_nodes policy)) where
+    answer_fits : (bx : List Range) (all : List PolicyPart) → x.player ≡ Universal → All (λ part. IsRightBelow P IsRight (slice_set bx depth (range_of part)) (below_of part)) all
+        → length (Answer (length all) ∷ in_turn (map policy_part_nodes all)) < 2 ^ 32 → AreTyped (in_turn (map policy_part_nodes all))
         → Fitting P (due.Policy depth ∷ []) (Answer (length all) ∷ in_turn (map policy_part_nodes all))
-    answer_fits bx all near player cover right small =
+    answer_fits bx all player right small typed =
         let nodes = λ (part : PolicyPart). under_nodes (below_of part) in
         let next = due.Below (depth + 1) in
-        let ends = (cover_near range_of (range_at bx depth) all cover (near_at bx depth near)).0 in
         let count = few_parts P next range_of nodes policy_part_nodes part_by_layer all in
         let few : length all < 2 ^ 32 = omega (arith, count, small) in
         let move : FitsMove P (player_at P depth) (Answer (length all)) = subst (λ (o : Option Player). FitsMove P o (Answer (length all))) (sym (at ∙ ap Some player)) (length all, refl, few) in
         node_fits P (due.Policy depth) (Answer (length all)) (in_turn (map policy_part_nodes all)) move
-        (parts_fit P next range_of nodes policy_part_nodes part_by_layer all ends
-        (λ k d h. λ short. under_fits (depth + 1) IsRight below (slice_set bx depth (range_of (get_or all k d))) (below_of (get_or all k d)) (near_set bx depth (range_of (get_or all k d)) near (ends k d h)) (right k d h) short)
-        (omega (arith, small)))
+        (parts_fit P next range_of nodes policy_part_nodes part_by_layer all
+        (λ k d h. λ short part. under_fits (depth + 1) IsRight below (slice_set bx depth (range_of (get_or all k d))) (below_of (get_or all k d)) (right k d h) short part)
+        (omega (arith, small)) typed)
 
-    move_fits : (bx : List Range) (z : policies.Layer) → AreNear bx → IsRightMove P x depth IsRight bx z → length (layer_nodes z) < 2 ^ 32 → Fitting P (due.Policy depth ∷ []) (layer_nodes z)
-    move_fits bx (answer.Leaf point) near right small = absurd right
-    move_fits bx (answer.Choose v policy) near (player, between, right) small =
-        let near_value = between_near (range_at bx depth) v (near_at bx depth near) between in
-        let move : FitsMove P (player_at P depth) (Choose v) = subst (λ (o : Option Player). FitsMove P o (Choose v)) (sym (at ∙ ap Some player)) (v, refl, whole_of v near_value) in
-        node_fits P (due.Policy depth) (Choose v) (policy_nodes policy) move
-        (below (slice_set bx depth (single v)) policy (near_set bx depth (single v) near (near_value, near_value)) right (omega (arith, small)))
-    move_fits bx (answer.Answer all) near (player, cover, right) small =
+    move_fits : (bx : List Range) (z : policies.Layer) → IsRightMove P x depth IsRight bx z → length (layer_nodes z) < 2 ^ 32 → AreTyped (layer_nodes z) → Fitting P (due.Policy depth ∷ []) (layer_nodes z)
+    move_fits bx (answer.Leaf point) right small typed = absurd right
+    move_fits bx (answer.Choose v policy) (player, between, right) small typed =
+        let move : FitsMove P (player_at P depth) (Choose v) = subst (λ (o : Option Player). FitsMove P o (Choose v)) (sym (at ∙ ap Some player)) (v, refl, typed.0) in
+        node_fits P (due.Policy depth) (Choose v) (policy_nodes policy) move (below (slice_set bx depth (single v)) policy right (omega (arith, small)) typed.1)
+    move_fits bx (answer.Answer all) (player, cover, right) small typed =
         let few : length (Answer (length all) ∷ in_turn (map policy_part_nodes all)) < 2 ^ 32 = small in
-        subst (λ (l : List Node). Fitting P (due.Policy depth ∷ []) l) (counted all) (answer_fits bx all near player cover right few)
+        subst (λ (l : List Node). Fitting P (due.Policy depth ∷ []) l) (counted all) (answer_fits bx all player right few typed.1)
 
-  pub policy_fits : (v : Fraction) (xs : List Var) (depth : ℕ) (bx : List Range) (policy : Moving) → drop depth (whole_vars P) ≡ xs → AreNear bx → IsRightPolicy P v xs depth bx policy
-      → length (policy_nodes policy) < 2 ^ 32 → Fitting P (due.Policy depth ∷ []) (policy_nodes policy)
-  policy_fits v [] depth bx policy at near right small =
+  pub policy_fits : (v : Fraction) (xs : List Var) (depth : ℕ) (bx : List Range) (policy : Moving) → drop depth (whole_vars P) ≡ xs → IsRightPolicy P v xs depth bx policy
+      → length (policy_nodes policy) < 2 ^ 32 → AreTyped (policy_nodes policy) → Fitting P (due.Policy depth ∷ []) (policy_nodes policy)
+  policy_fits v [] depth bx policy at right small typed =
       subst (λ (l : List Node). Fitting P (due.Policy depth ∷ []) l) (sym (by_layer policy)) (end_fits v depth bx (player_nowhere P depth at) (out-Policy policy) right)
-  policy_fits v (x ∷ xs) depth bx policy at near right small =
+  policy_fits v (x ∷ xs) depth bx policy at right small typed =
       subst (λ (l : List Node). Fitting P (due.Policy depth ∷ []) l) (sym (by_layer policy))
-      (move_fits x depth (player_here P depth x xs at) (IsRightPolicy P v xs (depth + 1)) (λ b p n r s. policy_fits v xs (depth + 1) b p (rest_at (whole_vars P) depth x xs at) n r s) bx (out-Policy policy) near right
-      (subst (λ (l : List Node). length l < 2 ^ 32) (by_layer policy) small))
+      (move_fits x depth (player_here P depth x xs at) (IsRightPolicy P v xs (depth + 1)) (λ b p r s y. policy_fits v xs (depth + 1) b p (rest_at (whole_vars P) depth x xs at) r s y) bx (out-Policy policy) right
+      (subst (λ (l : List Node). length l < 2 ^ 32) (by_layer policy) small) (subst AreTyped (by_layer policy) typed))
