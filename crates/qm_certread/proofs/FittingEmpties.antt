@@ -1,11 +1,9 @@
 -- Empty trees that are right fit their places, where they don't have too many nodes to be counted.
-use Rattle.std.proofs.Common.{◌≡◌, ℕ, suc, ◌+◌, ◌<◌, ◌≤◌, ◌^◌, true, true≢false, List, [], ◌∷◌, ◌++◌, get_or, length, map, Option, None, Some, All, inl, inr, refl, sym, ap, ◌∙◌, subst, drop, arith}
+use Rattle.std.proofs.Common.{◌≡◌, ℕ, ◌+◌, ◌<◌, ◌^◌, true, true≢false, List, [], ◌∷◌, get_or, length, map, Option, None, Some, All, inl, inr, refl, sym, ap, ◌∙◌, subst, drop, arith}
 use Rattle.std.specs.Prelude.{◌&&◌, IsSome, is_some, slice_get, slice_set}
-use Rattle.std.specs.List.{list_all}
 use Rattle.std.proofs.lemmas.Bool.{and_parts}
 use Rattle.std.proofs.lemmas.List.Sums.{AllPass-from_list_all}
 use Rattle.std.proofs.lemmas.Option.{slice_get_within}
-use Rattle.qm_frac.specs.Lowest.{IsFrac}
 use Rattle.qm_model.specs.declared.row_id.RowId.{RowId}
 use Rattle.qm_model.specs.declared.row_id.RowId.TheVariants as id
 use Rattle.qm_model.specs.declared.row.Row.{Row}
@@ -13,8 +11,7 @@ use Rattle.qm_model.specs.declared.range.Range.{Range}
 use Rattle.qm_model.specs.declared.variable.Player.TheVariants.{All as Universal}
 use Rattle.qm_model.specs.declared.variable.Var.{Var}
 use Rattle.qm_model.specs.declared.game.Problem.{Problem}
-use Rattle.qm_model.specs.Plays.{is_universal, whole_vars}
-use Rattle.qm_model.specs.Ranges.{range_at}
+use Rattle.qm_model.specs.Plays.{whole_vars}
 use Rattle.qm_model.specs.Sound.{IsSound}
 use Rattle.qm_model.proofs.Players.{is_for_all}
 use Rattle.qm_trees.specs.declared.combination.Entry.{Entry}
@@ -30,7 +27,7 @@ use Rattle.qm_certfile.specs.Numbers.{number_of_row}
 use Rattle.qm_certread.specs.Nodes.{Node, Close, Split}
 use Rattle.qm_certread.specs.Dues as due
 use Rattle.qm_certread.specs.NodesOf.{empty_nodes, empty_part_nodes, in_turn}
-use Rattle.qm_certread.specs.Fits.{FitsAt, IsCombination, IsCount, IsRowEntry}
+use Rattle.qm_certread.specs.Fits.{FitsAt, IsCombination, IsCount}
 use Rattle.qm_certread.proofs.Fittings.{AreTyped, Fitting, few_parts, node_fits, none_fit, parts_fit}
 use Rattle.qm_certread.proofs.JudgedEmpties.{by_layer, counted, head_at, layer_nodes, part_by_layer, rest_at}
 

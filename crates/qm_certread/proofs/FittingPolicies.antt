@@ -1,17 +1,16 @@
 -- Policies that are right fit their places, where they don't have too many nodes to be counted.
-use Rattle.std.proofs.Common.{◌≡◌, ℕ, suc, ◌+◌, ◌<◌, ◌≤◌, ◌^◌, ℤ, List, [], ◌∷◌, ◌++◌, get_or, length, map, Option, None, Some, All, inl, inr, refl, sym, ap, ◌∙◌, subst, drop, arith}
+use Rattle.std.proofs.Common.{◌≡◌, ℕ, ◌+◌, ◌<◌, ◌^◌, List, [], ◌∷◌, ◌++◌, get_or, length, map, Option, None, Some, All, inl, inr, refl, sym, ap, ◌∙◌, subst, drop, arith}
 use Rattle.std.specs.Prelude.{slice_set}
 use Rattle.qm_math.specs.Fraction.{Fraction}
 use Rattle.qm_model.specs.declared.range.Range.{Range}
 use Rattle.qm_model.specs.declared.variable.Player.{Player}
-use Rattle.qm_model.specs.declared.variable.Player.TheVariants.{Exists, All as Universal}
+use Rattle.qm_model.specs.declared.variable.Player.TheVariants.{All as Universal}
 use Rattle.qm_model.specs.declared.variable.Var.{Var}
 use Rattle.qm_model.specs.declared.game.Problem.{Problem}
 use Rattle.qm_model.specs.Plays.{whole_vars}
 use Rattle.qm_model.specs.Points.{continuous_vars}
-use Rattle.qm_model.specs.Ranges.{range_at, single}
+use Rattle.qm_model.specs.Ranges.{single}
 use Rattle.qm_model.specs.Sound.{IsSound}
-use Rattle.qm_trees.specs.declared.empty.Empty.{Empty as EmptyTree}
 use Rattle.qm_trees.specs.declared.policy.Policy.{Policy as Moving, out-Policy}
 use Rattle.qm_trees.specs.declared.policy.Below.TheOpen as answer
 use Rattle.qm_trees.specs.declared.policy.PolicyPart.{PolicyPart}

@@ -1,7 +1,6 @@
 -- An empty tree's lines are judged as the tree is.
-use Rattle.std.proofs.Common.{◌≡◌, ℕ, zero, suc, ◌+◌, ◌<◌, ◌≤◌, ◌^◌, Bool, true, false, not, List, [], ◌∷◌, ◌++◌, length, map, Option, None, Some, Ok, inl, inr, refl, sym, ap, ap₂, ◌∙◌, subst, arith, drop}
+use Rattle.std.proofs.Common.{◌≡◌, ℕ, zero, suc, ◌+◌, ◌<◌, ◌≤◌, ◌^◌, Bool, true, false, not, List, [], ◌∷◌, ◌++◌, length, map, Some, inl, inr, refl, sym, ap, ap₂, ◌∙◌, subst, arith, drop}
 use Rattle.std.specs.Prelude.{◌==◌, ◌&&◌, slice_get, slice_set, if◌then◌else◌}
-use Rattle.std.proofs.lemmas.Bool.{and_from}
 use Rattle.std.proofs.lemmas.Bool.Decides.{Decides-eqb, nat_tests}
 use Rattle.std.proofs.lemmas.List.{length-map}
 use Rattle.std.proofs.lemmas.Option.{slice_get_within}
@@ -18,20 +17,18 @@ use Rattle.qm_trees.specs.declared.empty.Empty.TheFolds.{fold_out-Empty, fold_ou
 use Rattle.qm_trees.specs.declared.empty.EmptyPart.{EmptyPart}
 use Rattle.qm_trees.specs.Entries.{Combination, are_well_formed}
 use Rattle.qm_trees.specs.Verdicts.{Verdict, Broken, line, ◌then◌}
-use Rattle.qm_trees.specs.Ranges.{counts_right, judge_each, judge_parts}
+use Rattle.qm_trees.specs.Ranges.{judge_each, judge_parts}
 use Rattle.qm_trees.specs.RefuteJudgement.{Head}
 use Rattle.qm_trees.specs.EmptyJudgement as empties
 use Rattle.qm_trees.specs.EmptyJudgement.{below_of, closes_empty, judge_close, judge_empty, judge_end, judge_split, range_of}
 use Rattle.qm_trees.proofs.Multipliers.{well_formed_says}
-use Rattle.qm_certfile.specs.Styles.{first_style}
 use Rattle.qm_certread.specs.Nodes.{Node, Close, Part, Split}
 use Rattle.qm_certread.specs.Dues.{Due, after}
 use Rattle.qm_certread.specs.Dues as due
 use Rattle.qm_certread.specs.NodesOf.{empty_nodes, empty_part_nodes, empty_part_step, empty_step, in_turn}
-use Rattle.qm_certread.specs.Fits.{AreFit, FitsAt, IsCombination, IsCount, IsOne, IsPlain, IsRowEntry, IsSplit}
-use Rattle.qm_certread.specs.Tasks.{Task, EmptyTrees, Empty, below, due_of, follow}
-use Rattle.qm_certread.specs.FirstFault.{rule_at}
-use Rattle.qm_certread.proofs.Turns.{IsTurn, Turned, covering, judged, known_turn, last_turn, node_judged, node_turn, nodes_turn, parts_turn, same_turn}
+use Rattle.qm_certread.specs.Fits.{FitsAt, IsCombination, IsCount, IsPlain, IsSplit}
+use Rattle.qm_certread.specs.Tasks.{EmptyTrees, Empty}
+use Rattle.qm_certread.proofs.Turns.{IsTurn, covering, known_turn, last_turn, node_judged, node_turn, nodes_turn, parts_turn, same_turn}
 
 -- ---- lists
 
@@ -99,10 +96,10 @@ module _ (P : Problem) (cuts : List Row) (heads : List Head) (few : length (whol
       let alone = last_turn P cuts heads few more (Empty depth bx) (Close combo) test tt refl refl in
       known_turn P cuts heads few more (Empty depth bx) (Close combo) [] (judge_close P bx combo)
       (λ fits.
-        let plain = plain_of depth combo fits in
-        let formed : not combo.objective && are_well_formed combo.entries ≡ true = ap₂ ◌&&◌ (ap not plain.0) (combination_formed combo plain.1) in
-        same_turn P cuts heads few more (Empty depth bx ∷ []) (Close combo ∷ []) test (judge_close P bx combo)
-        (sym (if_true (not combo.objective && are_well_formed combo.entries) test (Broken broken.Text 0) formed)) alone)
+      let plain = plain_of depth combo fits in
+      let formed : not combo.objective && are_well_formed combo.entries ≡ true = ap₂ ◌&&◌ (ap not plain.0) (combination_formed combo plain.1) in
+      same_turn P cuts heads few more (Empty depth bx ∷ []) (Close combo ∷ []) test (judge_close P bx combo)
+      (sym (if_true (not combo.objective && are_well_formed combo.entries) test (Broken broken.Text 0) formed)) alone)
 
   -- a split may stand at a later place too, up to its own variable
   later_turn : (depth var : ℕ) (bx : List Range) (count : ℕ) (nodes : List Node) (v : Verdict) → (var ≡ depth → ⊥) → Turn (depth + 1) bx (Split var count ∷ nodes) v → Turn depth bx (Split var count ∷ nodes) v
@@ -156,11 +153,11 @@ module _ (P : Problem) (cuts : List Row) (heads : List Head) (few : length (whol
         let verdict = if is_universal x then here bx all else Broken broken.Text 0 in
         known_turn P cuts heads few more (Empty depth bx) (Split var (length all)) parts verdict
         (λ fits.
-          let fit = split_of depth var (length all) fits in
-          let universal = universal_here fit.0.0 (subst (λ (n : ℕ). slice_get (whole_vars P) n ≡ Some fit.0.0) same fit.0.1) fit.0.2 in
-          same_turn P cuts heads few more (Empty depth bx ∷ []) (Split var (length all) ∷ parts) (here bx all) verdict
-          (sym (if_true (is_universal x) (here bx all) (Broken broken.Text 0) universal))
-          (subst (λ (n : ℕ). Turn depth bx (Split n (length all) ∷ parts) (here bx all)) (sym same) (here_turn bx all)))
+        let fit = split_of depth var (length all) fits in
+        let universal = universal_here fit.0.0 (subst (λ (n : ℕ). slice_get (whole_vars P) n ≡ Some fit.0.0) same fit.0.1) fit.0.2 in
+        same_turn P cuts heads few more (Empty depth bx ∷ []) (Split var (length all) ∷ parts) (here bx all) verdict
+        (sym (if_true (is_universal x) (here bx all) (Broken broken.Text 0) universal))
+        (subst (λ (n : ℕ). Turn depth bx (Split n (length all) ∷ parts) (here bx all)) (sym same) (here_turn bx all)))
 
     split_by : (t : Bool) (bx : List Range) (tree : EmptyTree) (var : ℕ) (all : List EmptyPart) → layer_nodes (none.Split var all) ≡ empty_nodes tree → (var == depth) ≡ t
         → Turn depth bx (Split var (length all) ∷ in_turn (map empty_part_nodes all)) (split bx tree var all t)
@@ -183,11 +180,11 @@ module _ (P : Problem) (cuts : List Row) (heads : List Head) (few : length (whol
   end_turn depth bx at (none.Split var all) =
       known_turn P cuts heads few more (Empty depth bx) (Split var (length (map empty_part_nodes all))) (in_turn (map empty_part_nodes all)) (Broken broken.Text 0)
       (λ fits.
-        let split = split_of depth var (length (map empty_part_nodes all)) fits in
-        let inside = slice_get_within (whole_vars P) var split.0.0 split.0.1 in
-        let behind_it : depth ≤ var = split.0.3 in
-        let none = none_at (whole_vars P) depth at in
-        absurd (omega arith))
+      let split = split_of depth var (length (map empty_part_nodes all)) fits in
+      let inside = slice_get_within (whole_vars P) var split.0.0 split.0.1 in
+      let behind_it : depth ≤ var = split.0.3 in
+      let none = none_at (whole_vars P) depth at in
+      absurd (omega arith))
 
   pub empty_turn : (xs : List Var) (depth : ℕ) (bx : List Range) (tree : EmptyTree) → drop depth (whole_vars P) ≡ xs → Turn depth bx (empty_nodes tree) (judge_empty P xs depth bx tree)
   empty_turn [] depth bx tree at =

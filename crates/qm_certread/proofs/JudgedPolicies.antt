@@ -1,6 +1,6 @@
 -- A policy's lines are judged as the policy is.
-use Rattle.std.proofs.Common.{◌≡◌, ℕ, ◌+◌, ◌<◌, ◌^◌, ℤ, Bool, true, false, List, [], ◌∷◌, ◌++◌, length, map, Option, None, Some, Ok, inl, inr, refl, sym, ap, ap₂, ◌∙◌, subst, drop}
-use Rattle.std.specs.Prelude.{◌==◌, ◌&&◌, slice_get, slice_set, if◌then◌else◌}
+use Rattle.std.proofs.Common.{◌≡◌, ℕ, ◌+◌, ◌<◌, ◌^◌, ℤ, true, List, [], ◌∷◌, ◌++◌, length, map, Option, None, Some, Ok, inl, inr, refl, sym, ap, ap₂, ◌∙◌, subst, drop}
+use Rattle.std.specs.Prelude.{◌==◌, ◌&&◌, slice_set, if◌then◌else◌}
 use Rattle.std.specs.Option.{option_map}
 use Rattle.std.proofs.lemmas.List.{length-map}
 use Rattle.std.proofs.lemmas.Option.{slice_get_past}
@@ -23,7 +23,7 @@ use Rattle.qm_trees.specs.declared.policy.Below.TheFolds.{fold_out-Below, fold_o
 use Rattle.qm_trees.specs.declared.policy.PolicyPart.{PolicyPart, out-PolicyPart}
 use Rattle.qm_trees.specs.Fractions.{are_fracs}
 use Rattle.qm_trees.specs.Leaves.{leaf_passes}
-use Rattle.qm_trees.specs.Verdicts.{Verdict, Fine, Broken, line, ◌then◌}
+use Rattle.qm_trees.specs.Verdicts.{Verdict, Broken, line, ◌then◌}
 use Rattle.qm_trees.specs.Ranges.{judge_each, judge_parts}
 use Rattle.qm_trees.specs.RefuteJudgement.{Head}
 use Rattle.qm_trees.specs.EmptyJudgement.{judge_empty}
@@ -38,10 +38,10 @@ use Rattle.qm_certread.specs.Dues as due
 use Rattle.qm_certread.specs.Forms.{player_at}
 use Rattle.qm_certread.specs.NodesOf.{below_nodes, below_step, in_turn, policy_nodes, policy_part_nodes, policy_part_step, policy_step}
 use Rattle.qm_certread.specs.Fits.{AreFit, FitsAt, FitsMove, IsPoint}
-use Rattle.qm_certread.specs.Tasks.{Policies, Task, Below, Policy, due_of, follow}
+use Rattle.qm_certread.specs.Tasks.{Policies, Below, Policy, follow}
 use Rattle.qm_certread.specs.FirstFault.{rule_at}
 use Rattle.qm_certread.proofs.Rebuilt.{move_after}
-use Rattle.qm_certread.proofs.Turns.{IsTurn, Turned, covering, judged, known_turn, last_turn, node_judged, node_turn, nodes_turn, parts_turn, same_turn}
+use Rattle.qm_certread.proofs.Turns.{IsTurn, covering, judged, known_turn, last_turn, node_judged, node_turn, nodes_turn, parts_turn, same_turn}
 use Rattle.qm_certread.proofs.JudgedEmpties.{empty_turn, head_at, if_false, if_true, none_at, rest_at}
 
 -- ---- who sets the next variable
@@ -146,10 +146,10 @@ module _ (P : Problem) (cuts : List Row) (heads : List Head) (few : length (whol
       let test = line broken.Leaf (leaf_passes P value bx point) in
       known_turn P cuts heads few more (Policy value depth bx) (Leaf point) [] (judge_end P value bx (answer.Leaf point))
       (λ fits.
-        let is_point = (leaf_fits P (player_at P depth) point fits).1 in
-        let formed : form ≡ true = ap₂ ◌&&◌ (same_count (length point) (length (continuous_vars P)) is_point.0) ((fracs_say point).1 is_point.1) in
-        same_turn P cuts heads few more (Policy value depth bx ∷ []) (Leaf point ∷ []) test (judge_end P value bx (answer.Leaf point)) (sym (if_true form test (Broken broken.Text 0) formed))
-        (last_turn P cuts heads few more (Policy value depth bx) (Leaf point) test tt refl refl))
+      let is_point = (leaf_fits P (player_at P depth) point fits).1 in
+      let formed : form ≡ true = ap₂ ◌&&◌ (same_count (length point) (length (continuous_vars P)) is_point.0) ((fracs_say point).1 is_point.1) in
+      same_turn P cuts heads few more (Policy value depth bx ∷ []) (Leaf point ∷ []) test (judge_end P value bx (answer.Leaf point)) (sym (if_true form test (Broken broken.Text 0) formed))
+      (last_turn P cuts heads few more (Policy value depth bx) (Leaf point) test tt refl refl))
 
   end_turn : (depth : ℕ) (bx : List Range) → player_at P depth ≡ None → (z : policies.Layer) → Turn depth bx (layer_nodes z) (judge_end P value bx z)
   end_turn depth bx at (answer.Leaf point) = leaf_turn depth bx point
@@ -170,10 +170,10 @@ module _ (P : Problem) (cuts : List Row) (heads : List Head) (few : length (whol
         let chosen = line broken.Choose (Ok (is_in (range_at bx depth) v)) then judge (slice_set bx depth (single v)) below in
         known_turn P cuts heads few more (Policy value depth bx) (Choose v) (policy_nodes below) (judge_move P x depth judge bx (answer.Choose v below))
         (λ fits.
-          let player : x.player ≡ Exists = same_player x.player Exists (player_at P depth) at (choose_fits P (player_at P depth) v fits) in
-          same_turn P cuts heads few more (Policy value depth bx ∷ []) (Choose v ∷ policy_nodes below) chosen (judge_move P x depth judge bx (answer.Choose v below))
-          (sym (if_false (is_universal x) (Broken broken.Text 0) chosen (not_universal x player)))
-          (node_turn P cuts heads few more (Policy value depth bx) (Choose v) (policy_nodes below) (judge (slice_set bx depth (single v)) below) tt (turn (slice_set bx depth (single v)) below)))
+        let player : x.player ≡ Exists = same_player x.player Exists (player_at P depth) at (choose_fits P (player_at P depth) v fits) in
+        same_turn P cuts heads few more (Policy value depth bx ∷ []) (Choose v ∷ policy_nodes below) chosen (judge_move P x depth judge bx (answer.Choose v below))
+        (sym (if_false (is_universal x) (Broken broken.Text 0) chosen (not_universal x player)))
+        (node_turn P cuts heads few more (Policy value depth bx) (Choose v) (policy_nodes below) (judge (slice_set bx depth (single v)) below) tt (turn (slice_set bx depth (single v)) below)))
 
     abbrev judged_part : List Range → PolicyPart → Verdict
     judged_part bx part = judge_below P judge (slice_set bx depth (range_of part)) (below_of part)
@@ -184,12 +184,12 @@ module _ (P : Problem) (cuts : List Row) (heads : List Head) (few : length (whol
         let covered = judge_parts range_of (judged_part bx) (range_at bx depth) all in
         known_turn P cuts heads few more (Policy value depth bx) (Answer (length all)) nodes (judge_move P x depth judge bx (answer.Answer all))
         (λ fits.
-          let player : x.player ≡ Universal = same_player x.player Universal (player_at P depth) at (answer_fits P (player_at P depth) (length all) fits) in
-          same_turn P cuts heads few more (Policy value depth bx ∷ []) (Answer (length all) ∷ nodes) covered (judge_move P x depth judge bx (answer.Answer all))
-          (sym (if_true (is_universal x) covered (Broken broken.Text 0) (is_for_all x player)))
-          (node_turn P cuts heads few more (Policy value depth bx) (Answer (length all)) nodes (judge_each range_of (judged_part bx) (range_at bx depth).low (range_at bx depth).high all) tt
-          (parts_turn P cuts heads few more (covering (Policies value) depth bx) range_of (λ part. under_nodes (below_of part)) policy_part_nodes (judged_part bx) part_by_layer
-          (λ part. under_turn (depth + 1) judge turn (slice_set bx depth (range_of part)) (below_of part)) (range_at bx depth).low all)))
+        let player : x.player ≡ Universal = same_player x.player Universal (player_at P depth) at (answer_fits P (player_at P depth) (length all) fits) in
+        same_turn P cuts heads few more (Policy value depth bx ∷ []) (Answer (length all) ∷ nodes) covered (judge_move P x depth judge bx (answer.Answer all))
+        (sym (if_true (is_universal x) covered (Broken broken.Text 0) (is_for_all x player)))
+        (node_turn P cuts heads few more (Policy value depth bx) (Answer (length all)) nodes (judge_each range_of (judged_part bx) (range_at bx depth).low (range_at bx depth).high all) tt
+        (parts_turn P cuts heads few more (covering (Policies value) depth bx) range_of (λ part. under_nodes (below_of part)) policy_part_nodes (judged_part bx) part_by_layer
+        (λ part. under_turn (depth + 1) judge turn (slice_set bx depth (range_of part)) (below_of part)) (range_at bx depth).low all)))
 
     move_turn : (bx : List Range) (z : policies.Layer) → Turn depth bx (layer_nodes z) (judge_move P x depth judge bx z)
     move_turn bx (answer.Leaf point) =

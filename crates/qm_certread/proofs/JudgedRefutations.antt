@@ -1,10 +1,9 @@
 -- A refutation's lines are judged as the refutation is.
-use Rattle.std.proofs.Common.{◌≡◌, ℕ, ◌+◌, ◌<◌, ◌^◌, ℤ, Bool, true, false, List, [], ◌∷◌, ◌++◌, length, map, Option, None, Some, Ok, inl, inr, refl, sym, ap, ap₂, ◌∙◌, subst, drop, arith}
-use Rattle.std.specs.Prelude.{◌==◌, ◌&&◌, slice_get, slice_set, if◌then◌else◌}
+use Rattle.std.proofs.Common.{◌≡◌, ℕ, ◌+◌, ◌<◌, ◌^◌, ℤ, Bool, true, false, List, [], ◌∷◌, length, map, Option, None, Some, Ok, inl, inr, refl, sym, ap, ap₂, ◌∙◌, subst, drop, arith}
+use Rattle.std.specs.Prelude.{◌==◌, ◌&&◌, slice_set, if◌then◌else◌}
 use Rattle.std.proofs.lemmas.List.{length-map}
 use Rattle.qm_model.specs.declared.row.Row.{Row}
 use Rattle.qm_model.specs.declared.range.Range.{Range}
-use Rattle.qm_model.specs.declared.variable.Player.{Player}
 use Rattle.qm_model.specs.declared.variable.Player.TheVariants.{All as Universal}
 use Rattle.qm_model.specs.declared.variable.Var.{Var}
 use Rattle.qm_model.specs.declared.game.Problem.{Problem}
@@ -78,9 +77,9 @@ module _ (P : Problem) (cuts : List Row) (heads : List Head) (few : length (whol
       let test = line broken.Close (closes_here P cuts bx G combo) in
       known_turn P cuts heads few more (Refute G depth bx) (Close combo) [] (judge_close P cuts G bx combo)
       (λ fits.
-        same_turn P cuts heads few more (Refute G depth bx ∷ []) (Close combo ∷ []) test (judge_close P cuts G bx combo)
-        (sym (if_true (are_well_formed combo.entries) test (Broken broken.Text 0) (combination_formed combo (close_fits depth combo fits))))
-        (last_turn P cuts heads few more (Refute G depth bx) (Close combo) test tt refl refl))
+      same_turn P cuts heads few more (Refute G depth bx ∷ []) (Close combo ∷ []) test (judge_close P cuts G bx combo)
+      (sym (if_true (are_well_formed combo.entries) test (Broken broken.Text 0) (combination_formed combo (close_fits depth combo fits))))
+      (last_turn P cuts heads few more (Refute G depth bx) (Close combo) test tt refl refl))
 
   end_turn : (depth : ℕ) (bx : List Range) → drop depth (whole_vars P) ≡ [] → (z : refutations.Layer) → Turn depth bx (layer_nodes z) (judge_end P cuts G bx z)
   end_turn depth bx at (why.Close combo) = close_turn depth bx combo
@@ -88,9 +87,9 @@ module _ (P : Problem) (cuts : List Row) (heads : List Head) (few : length (whol
       let count = length (map refute_part_nodes all) in
       known_turn P cuts heads few more (Refute G depth bx) (Over count) (in_turn (map refute_part_nodes all)) (Broken broken.Text 0)
       (λ fits.
-        let inside = over_fits depth count fits in
-        let past = none_at (whole_vars P) depth at in
-        absurd (omega arith))
+      let inside = over_fits depth count fits in
+      let past = none_at (whole_vars P) depth at in
+      absurd (omega arith))
   end_turn depth bx at (why.Pick v completion below) =
       known_turn P cuts heads few more (Refute G depth bx) (Pick v completion) (refute_nodes below) (Broken broken.Text 0)
       (λ fits. absurd (some_player Universal (player_at P depth) (player_nowhere P depth at) (pick_fits depth v completion fits).0))
@@ -126,16 +125,16 @@ module _ (P : Problem) (cuts : List Row) (heads : List Head) (few : length (whol
         let formed = is_universal x && (length completion == universal_count later) in
         known_turn P cuts heads few more (Refute G depth bx) (Pick v completion) (refute_nodes below) (judge_move P cuts G x later depth judge bx (why.Pick v completion below))
         (λ fits.
-          let fit = pick_fits depth v completion fits in
-          let player : x.player ≡ Universal = same_player x.player Universal (player_at P depth) (player_here P depth x later at) fit.0 in
-          let last : drop (depth + 1) (whole_vars P) ≡ later = rest_at (whole_vars P) depth x later at in
-          let count : length completion ≡ universal_count later = fit.1.0 ∙ ap universal_count last in
-          let test : formed ≡ true = ap₂ ◌&&◌ (is_for_all x player) (same_count (length completion) (universal_count later) count) in
-          same_turn P cuts heads few more (Refute G depth bx ∷ []) nodes (line broken.Pick (Ok (picks later bx v completion)) then rest) (judge_move P cuts G x later depth judge bx (why.Pick v completion below))
-          (sym (if_true formed (line broken.Pick (Ok (picks later bx v completion)) then rest) (Broken broken.Text 0) test))
-          (same_turn P cuts heads few more (Refute G depth bx ∷ []) nodes (line broken.Pick (Ok (can_pick P depth bx v completion)) then rest) (line broken.Pick (Ok (picks later bx v completion)) then rest)
-          (ap (λ (xs : List Var). line broken.Pick (Ok (picks xs bx v completion)) then rest) last)
-          (node_turn P cuts heads few more (Refute G depth bx) (Pick v completion) (refute_nodes below) rest tt (turn (slice_set bx depth (single v)) below))))
+        let fit = pick_fits depth v completion fits in
+        let player : x.player ≡ Universal = same_player x.player Universal (player_at P depth) (player_here P depth x later at) fit.0 in
+        let last : drop (depth + 1) (whole_vars P) ≡ later = rest_at (whole_vars P) depth x later at in
+        let count : length completion ≡ universal_count later = fit.1.0 ∙ ap universal_count last in
+        let test : formed ≡ true = ap₂ ◌&&◌ (is_for_all x player) (same_count (length completion) (universal_count later) count) in
+        same_turn P cuts heads few more (Refute G depth bx ∷ []) nodes (line broken.Pick (Ok (picks later bx v completion)) then rest) (judge_move P cuts G x later depth judge bx (why.Pick v completion below))
+        (sym (if_true formed (line broken.Pick (Ok (picks later bx v completion)) then rest) (Broken broken.Text 0) test))
+        (same_turn P cuts heads few more (Refute G depth bx ∷ []) nodes (line broken.Pick (Ok (can_pick P depth bx v completion)) then rest) (line broken.Pick (Ok (picks later bx v completion)) then rest)
+        (ap (λ (xs : List Var). line broken.Pick (Ok (picks xs bx v completion)) then rest) last)
+        (node_turn P cuts heads few more (Refute G depth bx) (Pick v completion) (refute_nodes below) rest tt (turn (slice_set bx depth (single v)) below))))
 
     move_turn : (bx : List Range) (z : refutations.Layer) → Turn depth bx (layer_nodes z) (judge_move P cuts G x later depth judge bx z)
     move_turn bx (why.Close combo) = close_turn depth bx combo

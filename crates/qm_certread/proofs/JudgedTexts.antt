@@ -9,7 +9,6 @@ use Rattle.qm_model.specs.Goals.{Goal}
 use Rattle.qm_model.specs.Goals as goals
 use Rattle.qm_model.specs.Plays.{whole_vars}
 use Rattle.qm_model.specs.Sound.{IsSound}
-use Rattle.qm_trees.specs.declared.empty.Empty.{Empty as EmptyTree}
 use Rattle.qm_trees.specs.declared.policy.Policy.{Policy as Moving}
 use Rattle.qm_trees.specs.declared.refutation.Refute.{Refute as Refutation}
 use Rattle.qm_trees.specs.Verdicts.{Verdict, Fine, ◌then◌}
@@ -18,14 +17,14 @@ use Rattle.qm_trees.specs.PolicyJudgement.{judge_policy}
 use Rattle.qm_trees.specs.RefuteJudgement.{Head, judge_refute}
 use Rattle.qm_certfile.specs.declared.certificate.Certificate.{Certificate}
 use Rattle.qm_certfile.specs.declared.certificate.Certificate.TheVariants as ending
-use Rattle.qm_certfile.specs.CertificateLines.{certificate_text, claimed, version_line}
+use Rattle.qm_certfile.specs.CertificateLines.{claimed, version_line}
 use Rattle.qm_certfile.specs.Lines.{Line, text_of}
 use Rattle.qm_certfile.specs.Styles.{first_style}
 use Rattle.qm_certread.specs.Pieces.{lines_of}
 use Rattle.qm_certread.specs.Nodes.{Node, Fixed, Infeasible, Legal, NoPlay, Optimal}
 use Rattle.qm_certread.specs.Dues.{end_line, illegal_line, policy_line, refute_line}
 use Rattle.qm_certread.specs.NodesOf.{empty_nodes, nodes_of, policy_nodes, refute_nodes}
-use Rattle.qm_certread.specs.Fits.{AreFit, Fits, line_of}
+use Rattle.qm_certread.specs.Fits.{AreFit, line_of}
 use Rattle.qm_certread.specs.Tasks.{Task, Claimed, Played, Said as Fixing, Policy, Empty, Refute, due_of, refuted}
 use Rattle.qm_certread.specs.FirstFault.{first_fault, judge_lines}
 use Rattle.qm_certread.specs.Judgements.{CertificatesAreJudged, EmptyTreesAreJudged, PoliciesAreJudged, RefutationsAreJudged, judge_certificate, judge_play, judge_refuted}

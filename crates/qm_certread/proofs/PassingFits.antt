@@ -1,5 +1,5 @@
 -- A certificate that passes fits the game, where its text has fewer than 2 ^ 32 bytes.
-use Rattle.std.proofs.Common.{◌≡◌, ℕ, ◌+◌, ◌<◌, ◌≤◌, ◌^◌, ℤ, List, [], ◌∷◌, ◌++◌, append-nil, append_assoc, length, length-append, map, All, inl, inr, refl, sym, ap, ◌∙◌, subst, arith}
+use Rattle.std.proofs.Common.{◌≡◌, ℕ, ◌<◌, ◌≤◌, ◌^◌, ℤ, List, [], ◌∷◌, ◌++◌, append-nil, append_assoc, length, length-append, map, inl, inr, refl, sym, ◌∙◌, subst, arith}
 use Rattle.std.specs.Prelude.{◌↔◌}
 use Rattle.std.proofs.lemmas.List.Sums.{length-filter}
 use Rattle.qm_math.specs.Fraction.{Fraction}
@@ -8,14 +8,13 @@ use Rattle.qm_model.specs.declared.game.Sense.{Sense}
 use Rattle.qm_model.specs.declared.range.Range.{Range}
 use Rattle.qm_model.specs.declared.variable.Var.{Var}
 use Rattle.qm_model.specs.declared.game.Problem.{Problem}
-use Rattle.qm_model.specs.Boxes.{bounds_of, whole_box_of}
+use Rattle.qm_model.specs.Boxes.{whole_box_of}
 use Rattle.qm_model.specs.Goals.{Goal}
 use Rattle.qm_model.specs.Goals as goals
 use Rattle.qm_model.specs.Plays.{AreWithin, IsPlay, is_universal, universal_vars, whole_vars}
 use Rattle.qm_model.specs.Sound.{IsSound}
 use Rattle.qm_trees.specs.declared.policy.Policy.{Policy as Moving}
 use Rattle.qm_trees.specs.declared.refutation.Refute.{Refute as Refutation}
-use Rattle.qm_trees.specs.Picks.{universal_count}
 use Rattle.qm_trees.specs.PolicyRight.{IsRightPolicy}
 use Rattle.qm_trees.specs.RefuteRight.{IsRightRefutation}
 use Rattle.qm_certfile.specs.declared.certificate.Certificate.{Certificate}
@@ -24,13 +23,13 @@ use Rattle.qm_certfile.specs.CertificateLines.{certificate_text, claimed, versio
 use Rattle.qm_certfile.specs.Lines.{Line, line_text, text_of}
 use Rattle.qm_certfile.specs.Passes.{Passes}
 use Rattle.qm_certfile.specs.Styles.{first_style}
-use Rattle.qm_certfile.specs.WellFormed.{AreOfType, HasNearBounds, IsWellFormed, IsWhole, Whole, empty_pieces, policy_pieces, refute_pieces}
+use Rattle.qm_certfile.specs.WellFormed.{AreOfType, HasNearBounds, IsWellFormed, Whole, policy_pieces, refute_pieces}
 use Rattle.qm_certfile.proofs.PassingForms.{passing_of_type}
 use Rattle.qm_certfile.proofs.Pieces.{both_of_type}
 use Rattle.qm_certread.specs.Nodes.{Node, Fixed, Infeasible, Legal, NoPlay, Optimal}
-use Rattle.qm_certread.specs.Dues.{Due, Claimed, Played, Said as DueLine, Policy, Empty, Refute, after, end_line, illegal_line, policy_line, refute_line, refuted}
+use Rattle.qm_certread.specs.Dues.{Due, Claimed, Played, Said as DueLine, Policy, Empty, Refute, end_line, illegal_line, policy_line, refute_line, refuted}
 use Rattle.qm_certread.specs.NodesOf.{empty_nodes, nodes_of, policy_nodes, refute_nodes}
-use Rattle.qm_certread.specs.Fits.{AreFit, AreValues, Fits, line_of}
+use Rattle.qm_certread.specs.Fits.{AreFit, Fits, line_of}
 use Rattle.qm_certread.specs.Judgements.{HasNoFault, IsOfPassing}
 use Rattle.qm_certread.proofs.BodyRead.{claimed_twice}
 use Rattle.qm_certread.proofs.FineTexts.{few_whole}
@@ -153,6 +152,6 @@ pub short_law : (P : Problem) (text : List ℕ) → IsSound P → HasNearBounds 
 short_law P text sound near short = (
   λ none. (let found = (no_fault_law P sound text).0 none in (found.0, found.2, found.3)),
   λ passing. (
-    let fits = passing_fits P sound near passing.0 passing.1 (subst (λ (t : List ℕ). length t < 2 ^ 32) (sym passing.2) short) in
-    (no_fault_law P sound text).1 (passing.0, fits, passing.1, passing.2)),
+      let fits = passing_fits P sound near passing.0 passing.1 (subst (λ (t : List ℕ). length t < 2 ^ 32) (sym passing.2) short) in
+      (no_fault_law P sound text).1 (passing.0, fits, passing.1, passing.2)),
 )

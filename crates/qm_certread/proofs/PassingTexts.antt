@@ -1,5 +1,5 @@
 -- A text has no fault exactly where it is that of a certificate that fits the game and passes.
-use Rattle.std.proofs.Common.{◌≡◌, ◌⊎◌, ℕ, ◌+◌, ◌<◌, Bool, true, ℤ, pos, ◌≤ℤ◌, List, [], ◌∷◌, ◌++◌, append_assoc, get_or, length, map, All, Ok, Err, inl, inr, refl, sym, ap, ◌∙◌, subst, arith}
+use Rattle.std.proofs.Common.{◌≡◌, ℕ, ◌+◌, true, ℤ, List, [], ◌∷◌, ◌++◌, get_or, length, map, Ok, Err, refl, sym, ap, ◌∙◌, subst, arith}
 use Rattle.std.specs.Prelude.{◌↔◌, ◌&&◌, int_le}
 use Rattle.std.specs.List.{list_all}
 use Rattle.std.proofs.lemmas.Bool.{and_from, and_parts}
@@ -16,13 +16,13 @@ use Rattle.qm_model.specs.Goals.{Goal, IsProper}
 use Rattle.qm_model.specs.Goals as goals
 use Rattle.qm_model.specs.Legal.{begin_within, holds_at}
 use Rattle.qm_model.specs.Linear.{form}
-use Rattle.qm_model.specs.Plays.{AreWithin, HoldsAt, IsPlay, is_universal, spread, universal_vars, whole_vars}
+use Rattle.qm_model.specs.Plays.{AreWithin, IsPlay, is_universal, spread, universal_vars, whole_vars}
 use Rattle.qm_model.specs.Sound.{IsSound}
 use Rattle.qm_trees.specs.declared.rule.Rule.TheVariants as broken
 use Rattle.qm_trees.specs.declared.policy.Policy.{Policy as Moving}
 use Rattle.qm_trees.specs.declared.refutation.Refute.{Refute as Refutation}
 use Rattle.qm_trees.specs.Picks.{universal_count}
-use Rattle.qm_trees.specs.Verdicts.{Verdict, Fine, Broken, Left, ◌then◌}
+use Rattle.qm_trees.specs.Verdicts.{Fine, ◌then◌}
 use Rattle.qm_trees.specs.Passing.{IsFine}
 use Rattle.qm_trees.specs.EmptyJudgement.{judge_empty}
 use Rattle.qm_trees.specs.PolicyJudgement.{judge_policy}
@@ -33,7 +33,6 @@ use Rattle.qm_trees.proofs.PolicyLines as policies
 use Rattle.qm_trees.proofs.RefutationLines as refutations
 use Rattle.qm_certfile.specs.declared.certificate.Certificate.{Certificate}
 use Rattle.qm_certfile.specs.declared.certificate.Certificate.TheVariants as ending
-use Rattle.qm_certfile.specs.CertificateLines.{certificate_text}
 use Rattle.qm_certfile.specs.Passes.{Passes, RefutesWhole}
 use Rattle.qm_certfile.specs.Styles.{first_style}
 use Rattle.qm_certread.specs.Pieces.{lines_of, words_of}
@@ -43,7 +42,7 @@ use Rattle.qm_certread.specs.Dues.{Due, after}
 use Rattle.qm_certread.specs.Dues as due
 use Rattle.qm_certread.specs.Forms.{certificate_form, form_of, said_at}
 use Rattle.qm_certread.specs.Reading.{IsInForm, IsOfCertificate}
-use Rattle.qm_certread.specs.Fits.{AreValues, Fits, FitsAt}
+use Rattle.qm_certread.specs.Fits.{Fits, FitsAt}
 use Rattle.qm_certread.specs.Tasks.{Task, Claimed, due_of, follow}
 use Rattle.qm_certread.specs.FirstFault.{first_fault, is_play, judge_lines, rule_at}
 use Rattle.qm_certread.specs.Judgements.{HasNoFault, IsOfPassingFit, judge_certificate, judge_play, judge_refuted}

@@ -1,5 +1,5 @@
 -- Verdicts one after another.
-use Rattle.std.proofs.Common.{◌≡◌, ◌+◌, refl, ap, arith}
+use Rattle.std.proofs.Common.{◌≡◌, refl, ap, arith}
 use Rattle.qm_trees.specs.Verdicts.{Verdict, Fine, Broken, Left, ◌then◌}
 
 pub then_assoc : (a b c : Verdict) → (a then b) then c ≡ a then (b then c)

@@ -1,10 +1,9 @@
 -- Nodes that stand where tasks are due are judged one after another, and then what stands behind them.
-use Rattle.std.proofs.Common.{◌≡◌, ℕ, zero, suc, ◌+◌, ◌<◌, ◌^◌, ℤ, pos, ◌+ℤ◌, Bool, true, false, List, [], ◌∷◌, ◌++◌, append_assoc, length, map, Ok, Err, inl, inr, refl, sym, ap, ◌∙◌, subst, arith}
+use Rattle.std.proofs.Common.{◌≡◌, ℕ, zero, suc, ◌+◌, ◌<◌, ◌^◌, ℤ, pos, ◌+ℤ◌, Bool, true, false, List, [], ◌∷◌, ◌++◌, append_assoc, length, map, Ok, Err, refl, sym, ap, ◌∙◌, subst, arith}
 use Rattle.std.specs.Prelude.{◌==◌, slice_set}
 use Rattle.std.proofs.lemmas.Bool.Decides.{nat_tests}
 use Rattle.std.proofs.lemmas.List.{map-append}
 use Rattle.memchr.specs.Find.{is_byte}
-use Rattle.qm_math.specs.Fraction.{Fraction}
 use Rattle.qm_model.specs.declared.row.Row.{Row}
 use Rattle.qm_model.specs.declared.range.Range.{Range}
 use Rattle.qm_model.specs.declared.game.Problem.{Problem}
@@ -18,13 +17,13 @@ use Rattle.qm_certfile.specs.Lines.{line_text, text_of}
 use Rattle.qm_certfile.specs.Styles.{first_style}
 use Rattle.qm_certread.specs.Pieces.{lines_of, words_of}
 use Rattle.qm_certread.specs.Spelling.{Said}
-use Rattle.qm_certread.specs.Nodes.{Node, Fixed, Infeasible, NoPlay, Optimal, Legal, Choose, Answer, Leaf, Split, Over, Pick, Close, Part}
+use Rattle.qm_certread.specs.Nodes.{Node, Fixed, Infeasible, NoPlay, Optimal, Choose, Answer, Split, Over, Pick, Part}
 use Rattle.qm_certread.specs.Dues.{Due, after}
 use Rattle.qm_certread.specs.Dues as due
 use Rattle.qm_certread.specs.Forms.{rule_of, said_at}
 use Rattle.qm_certread.specs.NodesOf.{in_turn}
 use Rattle.qm_certread.specs.Fits.{AreFit, FitsAt, line_of}
-use Rattle.qm_certread.specs.Tasks.{Kind, Policies, EmptyTrees, Refutations, Covering, Task, Claimed, Played, Said as Fixing, Policy, Below, Empty, Refute, Ranges, below, due_below, due_of, follow, parts, ranges, tree_of}
+use Rattle.qm_certread.specs.Tasks.{Kind, Policies, EmptyTrees, Refutations, Covering, Task, Claimed, Played, Said as Fixing, Policy, Below, Empty, Refute, Ranges, below, due_below, due_of, follow, ranges, tree_of}
 use Rattle.qm_certread.specs.FirstFault.{judge_lines, rule_at}
 use Rattle.qm_certread.proofs.ThenLaws.{none_then, then_assoc, then_none}
 use Rattle.qm_certread.proofs.TextLines.{joined}
