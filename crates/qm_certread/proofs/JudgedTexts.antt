@@ -110,7 +110,7 @@ module _ (P : Problem) (sound : IsSound P) where
   two_lines : (v : Verdict) → (Fine 1) then ((Fine 1) then v) ≡ (Fine 2) then v
   two_lines v = sym (then_assoc (Fine 1) (Fine 1) v)
 
-  pub certificate_turn : (c : Certificate) → Turn (Claimed ∷ []) (nodes_of first_style P c) (judge_certificate P c)
+  certificate_turn : (c : Certificate) → Turn (Claimed ∷ []) (nodes_of first_style P c) (judge_certificate P c)
   certificate_turn (ending.Optimal value legal policy refute) =
       let shown = claimed P.sense value in
       let moves = policy_nodes policy in

@@ -12,14 +12,14 @@ mod Fittings
 mod JudgedEmpties
 mod JudgedPolicies
 mod JudgedRefutations
-mod JudgedTexts
+pub mod JudgedTexts
 mod LineForms
 mod LinesFit
 mod Moved
 mod NextLines
 mod NodePieces
-mod PassingFits
-mod PassingTexts
+pub mod PassingFits
+pub mod PassingTexts
 mod PolicyRead
 mod Positions
 mod Quotients
@@ -29,10 +29,11 @@ mod RowOrder
 mod RowsSaid
 mod TextLines
 mod TextSplits
-mod ThenLaws
+pub mod ThenLaws
 mod TreeNodes
 mod TreesRead
-mod Turns
+pub mod Turns
 mod WholeRead
 mod WordCuts
 mod WordForms
+mod Worked

@@ -12,3 +12,4 @@ pub mod Fits
 pub mod Tasks
 pub mod FirstFault
 pub mod Judgements
+pub mod Examples

@@ -4,6 +4,7 @@ ghost use Rattle.qm_model.specs.declared.row.Row.{Row};
 ghost use Rattle.qm_model.specs.Sound.{IsSound};
 ghost use Rattle.qm_trees.specs.RefuteJudgement.{Head};
 ghost use Rattle.qm_certfile.specs.WellFormed.{HasNearBounds};
+ghost use Rattle.qm_certread.specs.Examples.{AreJudgedSo};
 ghost use Rattle.qm_certread.specs.Reading.{IsInForm, IsOfCertificate};
 ghost use Rattle.qm_certread.specs.Judgements.{CertificatesAreJudged, EmptyTreesAreJudged, HasNoFault, IsOfPassing, IsOfPassingFit, PoliciesAreJudged, RefutationsAreJudged};
 
@@ -30,4 +31,9 @@ pub fn certificates_are_judged_line_for_line()
 pub fn texts_without_fault_are_those_of_passing_certificates()
     ensures fitting { (P : Problem) (text : List ℕ) → IsSound P → HasNoFault P text ↔ IsOfPassingFit P text }
     ensures short { (P : Problem) (text : List ℕ) → IsSound P → HasNearBounds P → length text < 2 ^ 32 → HasNoFault P text ↔ IsOfPassing P text }
+{}
+
+/// The first faults of docs/CERTIFICATE.md's example, evaluated.
+pub fn the_worked_example_has_these_faults()
+    ensures { AreJudgedSo }
 {}

@@ -29,6 +29,7 @@ mod words;
 pub use fault::CertFault;
 pub use laws::{
     certificates_are_judged_line_for_line, texts_in_form_are_those_of_certificates_that_fit,
-    texts_without_fault_are_those_of_passing_certificates, trees_are_judged_line_for_line,
+    texts_without_fault_are_those_of_passing_certificates, the_worked_example_has_these_faults,
+    trees_are_judged_line_for_line,
 };
 pub use reader::read;
