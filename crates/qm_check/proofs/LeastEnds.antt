@@ -1,5 +1,5 @@
 -- The least value of a combination's form, by the sums of the variables' coefficients.
-use Rattle.std.proofs.Common.{◌≡◌, ◌∙◌, refl, sym, ap, ℕ, zero, suc, ◌+◌, ◌<◌, Bool, List, [], ◌∷◌, length, Ok, Err, arith}
+use Rattle.std.proofs.Common.{◌≡◌, ◌∙◌, refl, ap, ℕ, suc, ◌+◌, ◌<◌, Bool, List, [], ◌∷◌, length, Ok, Err, arith}
 use Rattle.qm_math.specs.Fraction.{Fraction}
 use Rattle.qm_frac.specs.Checked.{Checked, and_then}
 use Rattle.qm_model.specs.declared.range.Range.{Range}

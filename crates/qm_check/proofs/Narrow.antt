@@ -1,7 +1,6 @@
 -- The numbers of a problem that is in order are fractions of the program.
-use Rattle.std.proofs.Common.{◌≡◌, ℕ, zero, suc, ◌+◌, ◌*◌, ◌<◌, ◌≤◌, ◌^◌, Bool, true, List, [], ◌∷◌, All, get_or, length, arith, unsigned_abs, ℤ, pos}
+use Rattle.std.proofs.Common.{◌≡◌, ℕ, zero, suc, ◌*◌, ◌<◌, ◌≤◌, ◌^◌, true, List, [], ◌∷◌, All, get_or, length, arith, unsigned_abs, ℤ, pos}
 use Rattle.std.specs.Prelude.{◌&&◌, IsSome, IsSomeAnd, slice_get, is_some, ◌≤ℤ◌}
-use Rattle.std.specs.List.{list_all}
 use Rattle.std.proofs.Math.Nat.{mul-le-mul_left}
 use Rattle.std.proofs.lemmas.Int.{ints}
 use Rattle.std.proofs.lemmas.Bool.{and_parts}
@@ -22,7 +21,7 @@ use Rattle.qm_trees.specs.EmptyJudgement.{all_uncertain, is_uncertain}
 use Rattle.qm_trees.specs.RefuteJudgement.{all_named}
 use Rattle.qm_trees.specs.RefuteRight.{AreNamed}
 use Rattle.qm_trees.proofs.Multipliers.{all_named-says}
-use Rattle.qm_check.specs.Narrow.{AreNarrow, HasNarrow, IsNarrow}
+use Rattle.qm_check.specs.Narrow.{HasNarrow, IsNarrow}
 
 -- ---- sizes
 

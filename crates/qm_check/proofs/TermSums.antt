@@ -1,5 +1,5 @@
 -- Sums to which the terms of a row are added one by one.
-use Rattle.std.proofs.Common.{◌≡◌, ◌≢◌, ◌∙◌, refl, sym, ap, ℕ, suc, zero, ◌+◌, ◌<◌, Bool, true, false, List, [], ◌∷◌, length, get_or, set, drop, Ok, Err, arith, subst, ℤ, pos, inl, inr}
+use Rattle.std.proofs.Common.{◌≡◌, ◌≢◌, ◌∙◌, refl, sym, ap, ℕ, suc, zero, ◌+◌, ◌<◌, Bool, true, false, List, [], ◌∷◌, length, get_or, set, drop, Ok, Err, arith, subst, ℤ, pos}
 use Rattle.std.specs.Prelude.{if◌then◌else◌, ◌==◌, Some}
 use Rattle.std.specs.Ordering.{int_eq}
 use Rattle.std.proofs.lemmas.Int.{ints}
@@ -8,7 +8,6 @@ use Rattle.std.proofs.lemmas.Bool.Decides.{Decides-int_eq, Decides-eqb}
 use Rattle.std.proofs.lemmas.List.{at_drop_more, drop_more, get_or-set_same, get_or-set_other}
 use Rattle.qm_math.specs.Fraction.{Fraction, whole}
 use Rattle.qm_frac.specs.Checked.{Checked, and_then, added, multiplied}
-use Rattle.qm_frac.proofs.CheckedLaws.{and_then_assoc}
 use Rattle.qm_model.specs.declared.row.Term.{Term}
 use Rattle.qm_model.specs.declared.row.Row.{Row}
 use Rattle.qm_model.specs.declared.game.Problem.{Problem}

@@ -1,10 +1,10 @@
-ghost use Rattle.std.specs.Prelude.{◌≡◌, ◌+◌, ◌^◌, ◌<◌, ◌≤◌, ◌&&◌, All, length, nat_lt, unsigned_abs};
+ghost use Rattle.std.specs.Prelude.{◌≡◌, ◌+◌, ◌^◌, ◌<◌, ◌≤◌, ◌&&◌, All, Ok, length, nat_lt, unsigned_abs};
 ghost use Rattle.qm_math.specs.Fraction.{is_at_most, whole};
-ghost use Rattle.qm_frac.specs.Checked.{added, and_then, multiplied};
+ghost use Rattle.qm_frac.specs.Checked.{added, and_then, divided, multiplied};
 ghost use Rattle.qm_model.specs.Points.{continuous_vars};
 ghost use Rattle.qm_model.specs.Sound.{IsRowOver};
 ghost use Rattle.qm_trees.specs.Evaluation.{greatest_end_by, least_end_by, zero};
-ghost use Rattle.qm_trees.specs.Leaves.{add_terms, are_in_bounds, leaf_objective, leaf_passes, objective_reaches, row_holds, row_sum, rows_hold, value_at};
+ghost use Rattle.qm_trees.specs.Leaves.{add_terms, are_in_bounds, leaf_passes, objective_reaches, row_holds, rows_hold, value_at};
 ghost use Rattle.qm_check.specs.Narrow.{AreNarrow, IsNarrow};
 
 use crate::ends::{greatest_end, least_end};
@@ -137,18 +137,37 @@ fn rows_hold(leaf: Leaf<'_>, rows: &[Row]) -> Result<bool, Leaves>
     Ok(true)
 }
 
+/// Whether a total reaches the value once it is divided by the scale.
+fn scaled_reaches(problem: &Problem, value: Frac, total: Frac) -> Result<bool, Leaves>
+    requires scale { unsigned_abs problem.now.scale < 2 ^ 127 }
+    requires positive { 0 < unsigned_abs problem.now.scale }
+    ensures { result ≡ and_then (divided total (whole problem.now.scale)) (λ w. Ok (is_at_most value w)) }
+{
+    let objective = total.div(over_one(problem.scale))?;
+    Ok(is_at_most(value, objective))
+}
+
+/// Whether the objective whose terms come to the sum reaches the value.
+fn sum_reaches(problem: &Problem, value: Frac, sum: Frac) -> Result<bool, Leaves>
+    requires constant { unsigned_abs problem.now.constant < 2 ^ 127 }
+    requires scale { unsigned_abs problem.now.scale < 2 ^ 127 }
+    requires positive { 0 < unsigned_abs problem.now.scale }
+    ensures { result ≡ and_then (added sum (whole problem.now.constant)) (λ k. and_then (divided k (whole problem.now.scale)) (λ w. Ok (is_at_most value w))) }
+{
+    let total = sum.add(over_one(problem.constant))?;
+    scaled_reaches(problem, value, total)
+}
+
 /// Whether the objective reaches the value where it is least.
 fn objective_reaches(leaf: Leaf<'_>, value: Frac) -> Result<bool, Leaves>
     requires terms { AreNarrow (length leaf.bx.now) leaf.problem.now.terms }
     requires constant { unsigned_abs leaf.problem.now.constant < 2 ^ 127 }
     requires scale { unsigned_abs leaf.problem.now.scale < 2 ^ 127 }
-    requires scale_positive { 0 < unsigned_abs leaf.problem.now.scale }
+    requires positive { 0 < unsigned_abs leaf.problem.now.scale }
     ensures { result ≡ objective_reaches leaf.entry.problem.now value leaf.entry.bx.now leaf.entry.point.now }
 {
     let sum = least_sum(leaf, leaf.problem.terms.as_slice())?;
-    let total = sum.add(over_one(leaf.problem.constant))?;
-    let objective = total.div(over_one(leaf.problem.scale))?;
-    Ok(is_at_most(value, objective))
+    sum_reaches(leaf.problem, value, sum)
 }
 
 /// Whether the values are in bounds, each row holds at the worst ends of the box, and the objective is at least the

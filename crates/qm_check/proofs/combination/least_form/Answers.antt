@@ -1,4 +1,4 @@
-use Rattle.std.proofs.Common.{sym, ◌∙◌, arith}
+use Rattle.std.proofs.Common.{◌∙◌, arith}
 use Rattle.qm_trees.specs.Entries.{weighted_rows}
 use Rattle.qm_check.proofs.LeastEnds.{least_by_sums}
 use Rattle.qm_check.proofs.combination.least_form.Goals as goal

@@ -1,4 +1,4 @@
-use Rattle.std.proofs.Common.{◌≡◌, ℕ, ◌<◌, ◌∷◌, [], drop, length}
+use Rattle.std.proofs.Common.{◌≡◌, ℕ, ◌∷◌, [], drop}
 use Rattle.qm_frac.specs.Checked.{and_then}
 use Rattle.qm_model.specs.Linear.{coefficient}
 use Rattle.qm_trees.specs.Entries.{with_row}

@@ -1,5 +1,5 @@
 use Rattle.std.proofs.Common.{◌∙◌, arith, length, pos}
-use Rattle.qm_math.specs.Fraction.{Fraction, whole}
+use Rattle.qm_math.specs.Fraction.{whole}
 use Rattle.qm_frac.specs.Checked.{subtracted}
 use Rattle.qm_model.specs.Linear.{HasVarsBelow}
 use Rattle.qm_check.proofs.TermSums.{term_taken}
