@@ -155,7 +155,7 @@ module _ (P : Problem) where
 
 -- ---- the whole text
 
-few_whole : (P : Problem) → IsSound P → length (whole_vars P) < 2 ^ 32
+pub few_whole : (P : Problem) → IsSound P → length (whole_vars P) < 2 ^ 32
 few_whole P sound = omega (arith, sound.few_vars, sound.wholes, length-take P.wholes P.vars)
 
 form_said : (P : Problem) (text : List ℕ) → IsInForm P text → (nodes : List Node) × AreSaid first_style P (Claimed ∷ []) nodes (lines_of text)

@@ -5,11 +5,21 @@ mod Decoded
 mod EmptyRead
 mod EntryForms
 mod FineTexts
+mod FittingEmpties
+mod FittingPolicies
+mod FittingRefutations
+mod Fittings
+mod JudgedEmpties
+mod JudgedPolicies
+mod JudgedRefutations
+pub mod JudgedTexts
 mod LineForms
 mod LinesFit
 mod Moved
 mod NextLines
 mod NodePieces
+pub mod PassingFits
+pub mod PassingTexts
 mod PolicyRead
 mod Positions
 mod Quotients
@@ -19,8 +29,11 @@ mod RowOrder
 mod RowsSaid
 mod TextLines
 mod TextSplits
+pub mod ThenLaws
 mod TreeNodes
 mod TreesRead
+pub mod Turns
 mod WholeRead
 mod WordCuts
 mod WordForms
+mod Worked

@@ -51,7 +51,7 @@ use Rattle.qm_certread.specs.NodesOf.{in_turn, below_nodes, empty_nodes, empty_p
 use Rattle.qm_certread.specs.Fits.{AreFit, Fits, FitsAt, FitsMove, IsRowEntry}
 
 -- what the line is made of
-abbrev node_pieces : Node → List Piece
+abbrev pub node_pieces : Node → List Piece
 node_pieces (Fixed line) = []
 node_pieces Infeasible = []
 node_pieces NoPlay = []
@@ -66,15 +66,15 @@ node_pieces (Pick value completion) = Whole value ∷ map Whole completion
 node_pieces (Close combo) = Entries combo.entries ∷ []
 node_pieces (Part range) = Whole range.low ∷ Whole range.high ∷ []
 
-abbrev all_pieces : List Node → List Piece
+abbrev pub all_pieces : List Node → List Piece
 all_pieces [] = []
 all_pieces (n ∷ ns) = node_pieces n ++ all_pieces ns
 
-pieces_append : (ns ms : List Node) → all_pieces (ns ++ ms) ≡ all_pieces ns ++ all_pieces ms
+pub pieces_append : (ns ms : List Node) → all_pieces (ns ++ ms) ≡ all_pieces ns ++ all_pieces ms
 pieces_append [] ms = refl
 pieces_append (n ∷ ns) ms = ap (λ ps. node_pieces n ++ ps) (pieces_append ns ms) ∙ sym (append_assoc (node_pieces n) (all_pieces ns) (all_pieces ms))
 
-append_none : (ps : List Piece) → ps ++ [] ≡ ps
+pub append_none : (ps : List Piece) → ps ++ [] ≡ ps
 append_none [] = refl
 append_none (p ∷ ps) = ap (λ t. p ∷ t) (append_none ps)
 
@@ -133,7 +133,7 @@ empty_part_step x y is = subst (λ z. SameEmptyPart (roll-EmptyPart z)) is (
     ∙ ap (λ ps. Whole y.range.low ∷ Whole y.range.high ∷ ps) y.below.1
     ∙ sym (ap all_pieces (fold-roll-EmptyPart (List Node) (List Node) nodes.empty_step nodes.empty_part_step (plain_empty_part y))))
 
-empty_same : (t : EmptyTree) → empty_pieces t ≡ all_pieces (empty_nodes t)
+pub empty_same : (t : EmptyTree) → empty_pieces t ≡ all_pieces (empty_nodes t)
 empty_same = ind-Empty SameEmpty SameEmptyPart empty_step empty_part_step
 
 -- ---- policies
@@ -198,7 +198,7 @@ policy_part_step x y is = subst (λ z. SamePolicyPart (roll-PolicyPart z)) is (
     ∙ ap (λ ps. Whole y.range.low ∷ Whole y.range.high ∷ ps) y.below.1
     ∙ sym (ap all_pieces (fold-roll-PolicyPart (List Node) (List Node) (List Node) nodes.below_step nodes.policy_step nodes.policy_part_step (plain_policy_part y))))
 
-policy_same : (p : Moving) → policy_pieces p ≡ all_pieces (policy_nodes p)
+pub policy_same : (p : Moving) → policy_pieces p ≡ all_pieces (policy_nodes p)
 policy_same = ind-Policy SameBelow SamePolicy SamePolicyPart below_step policy_step policy_part_step
 
 -- ---- refutations
@@ -242,7 +242,7 @@ refute_part_step x y is = subst (λ z. SameRefutePart (roll-RefutePart z)) is (
     ∙ ap (λ ps. Whole y.range.low ∷ Whole y.range.high ∷ ps) y.below.1
     ∙ sym (ap all_pieces (fold-roll-RefutePart (List Node) (List Node) nodes.refute_step nodes.refute_part_step (plain_refute_part y))))
 
-refute_same : (t : Refutation) → refute_pieces t ≡ all_pieces (refute_nodes t)
+pub refute_same : (t : Refutation) → refute_pieces t ≡ all_pieces (refute_nodes t)
 refute_same = ind-Refute SameRefute SameRefutePart refute_step refute_part_step
 
 -- ---- what fits is of its type
@@ -297,7 +297,7 @@ module _ (P : Problem) (few : length (whole_vars P) < 2 ^ 32) where
       let num = h.num_fits in
       record { positive = h.positive; lowest = ap (λ n. gcd_of n a.den) (sym size) ∙ h.lowest; num_fits = omega (arith, size); den_fits = h.den_fits }
 
-  frac_claimed : (sense : Sense) (a : Fraction) → IsFrac (claimed sense a) → IsFrac a
+  pub frac_claimed : (sense : Sense) (a : Fraction) → IsFrac (claimed sense a) → IsFrac a
   frac_claimed Max a h = h
   frac_claimed Min a h = frac_turned a h
 

@@ -152,7 +152,7 @@ module _ (P : Problem) where
   abbrev policy_part : Range → Under → PolicyPart
   policy_part range below = roll-PolicyPart (record { range = range; below = below })
 
-  move_after : (found : Option Player) (depth : ℕ) (node : Node) → FitsMove P found node → after first_style (Below depth) node ≡ after first_style (Policy depth) node
+  pub move_after : (found : Option Player) (depth : ℕ) (node : Node) → FitsMove P found node → after first_style (Below depth) node ≡ after first_style (Policy depth) node
   move_after None depth node (point, is, h) = subst (λ n. after first_style (Below depth) n ≡ after first_style (Policy depth) n) is refl
   move_after (Some Exists) depth node (value, is, h) = subst (λ n. after first_style (Below depth) n ≡ after first_style (Policy depth) n) is refl
   move_after (Some Universal) depth node (count, is, h) = subst (λ n. after first_style (Below depth) n ≡ after first_style (Policy depth) n) is refl

@@ -84,10 +84,10 @@ pub record IsShown (line : Line) : Type 0 where
 shown : (w : Word) (ws : Line) → AreWords (w ∷ ws) → IsShown (w ∷ ws)
 shown w ws h = record { first = w; others = ws; is = refl; visible = h }
 
-again : (line : Line) → IsShown line → words_of (joined 32 line) ≡ line
+pub again : (line : Line) → IsShown line → words_of (joined 32 line) ≡ line
 again line h = ap (λ l. words_of (joined 32 l)) h.is ∙ words_again h.first h.others h.visible ∙ sym h.is
 
-line_first_so : (line : Line) (rest : List ℕ) → IsShown line → lines_of (line_text line ++ rest) ≡ joined 32 line ∷ lines_of rest
+pub line_first_so : (line : Line) (rest : List ℕ) → IsShown line → lines_of (line_text line ++ rest) ≡ joined 32 line ∷ lines_of rest
 line_first_so line rest h =
     ap (λ l. lines_of (line_text l ++ rest)) h.is ∙ line_first (h.first ∷ h.others) rest h.visible ∙ ap (λ l. joined 32 l ∷ lines_of rest) (sym h.is)
 
@@ -129,7 +129,7 @@ shown_alone word h = shown word [] (h, tt)
 
 -- ---- lines that are due
 
-abbrev IsClean : Due → Type 0
+abbrev pub IsClean : Due → Type 0
 IsClean Claimed = Unit {0}
 IsClean Played = Unit {0}
 IsClean (DueLine line) = IsShown line
@@ -151,19 +151,19 @@ ranges_clean : (n : ℕ) (due : Due) → IsClean due → AreClean (ranges n due)
 ranges_clean zero due h = tt
 ranges_clean (suc n) due h = (h, tt)
 
-version_shown : IsShown (codes "certificate" ∷ codes "1" ∷ [])
+pub version_shown : IsShown (codes "certificate" ∷ codes "1" ∷ [])
 version_shown = shown (codes "certificate") (codes "1" ∷ []) (visible_word (codes "certificate") tt, (visible_word (codes "1") tt, tt))
 
-policy_shown : IsShown (codes "policy" ∷ [])
+pub policy_shown : IsShown (codes "policy" ∷ [])
 policy_shown = shown_alone (codes "policy") (visible_word (codes "policy") tt)
 
-refute_shown : IsShown (codes "refute" ∷ [])
+pub refute_shown : IsShown (codes "refute" ∷ [])
 refute_shown = shown_alone (codes "refute") (visible_word (codes "refute") tt)
 
-illegal_shown : IsShown (codes "illegal" ∷ [])
+pub illegal_shown : IsShown (codes "illegal" ∷ [])
 illegal_shown = shown_alone (codes "illegal") (visible_word (codes "illegal") tt)
 
-end_shown : IsShown (codes "end" ∷ [])
+pub end_shown : IsShown (codes "end" ∷ [])
 end_shown = shown_alone (codes "end") (visible_word (codes "end") tt)
 
 module _ (P : Problem) (few : length (whole_vars P) < 2 ^ 32) where
@@ -199,7 +199,7 @@ module _ (P : Problem) (few : length (whole_vars P) < 2 ^ 32) where
   move_shown (Some Exists) node (value, is, h) = subst (λ n. IsShown (line_of n)) is (shown (codes "choose") (signed_decimal value ∷ []) (visible_word (codes "choose") tt, (visible_whole value h, tt)))
   move_shown (Some Universal) node (count, is, h) = subst (λ n. IsShown (line_of n)) is (shown (codes "answer") (decimal count ∷ []) (visible_word (codes "answer") tt, (visible_count count h, tt)))
 
-  node_shown : (d : Due) (node : Node) → FitsAt P d node → IsClean d → IsShown (line_of node)
+  pub node_shown : (d : Due) (node : Node) → FitsAt P d node → IsClean d → IsShown (line_of node)
   node_shown Claimed node (inl same) clean = subst (λ n. IsShown (line_of n)) same (shown_alone (codes "infeasible") (visible_word (codes "infeasible") tt))
   node_shown Claimed node (inr (inl same)) clean = subst (λ n. IsShown (line_of n)) same (shown_alone (codes "empty") (visible_word (codes "empty") tt))
   node_shown Claimed node (inr (inr (value, is, h))) clean =

@@ -9,3 +9,7 @@ pub mod Reading
 pub mod WordSteps
 pub mod SaidSteps
 pub mod Fits
+pub mod Tasks
+pub mod FirstFault
+pub mod Judgements
+pub mod Examples

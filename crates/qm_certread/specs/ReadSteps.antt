@@ -1,4 +1,4 @@
--- What the reader of a text has taken of it. No public clause cites this.
+-- What the reader of a text has taken of it. No clause of `read` cites this.
 use Rattle.std.specs.Prelude.{◌≡◌, ℕ, ◌+◌, ◌<◌, ◌≤◌, ◌^◌, ◌⊎◌, List, [], ◌∷◌, ◌++◌, length, drop, Bool, true, false, Ok, Err, if◌then◌else◌}
 use Rattle.qm_model.specs.declared.game.Problem.{Problem}
 use Rattle.qm_trees.specs.declared.rule.Rule.TheVariants as broken

@@ -1,4 +1,4 @@
--- What lines of several kinds say. No public clause cites this.
+-- What lines of several kinds say. No clause of `read` cites this.
 use Rattle.std.specs.Prelude.{◌≡◌, ℕ, ℤ, List, Option, None, Some, Result, Ok, Err}
 use Rattle.qm_model.specs.declared.game.Problem.{Problem}
 use Rattle.qm_certread.specs.declared.fault.Misread.{Misread}

@@ -1,4 +1,4 @@
--- What small steps of the reader do. No public clause cites this.
+-- What small steps of the reader do. No clause of `read` cites this.
 use Rattle.std.specs.Prelude.{◌≡◌, ◌≢◌, ◌⊎◌, ◌++◌, true, false, not, ◌&&◌, ◌==◌, IsTrue, slice_index, ℕ, zero, suc, ◌^◌, ℤ, pos, negsuc, nat_lt, if◌then◌else◌, Bool, List, [], ◌∷◌, Option, None, Some, Result, Ok, Err}
 use Rattle.qm_frac.specs.Signs.{signed}
 use Rattle.qm_text.specs.Digits.{is_numeral, numeral_value}

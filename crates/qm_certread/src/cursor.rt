@@ -13,7 +13,7 @@ pub struct Cursor {
 }
 
 /// Takes the next line. `Text`, where it is missing or has no LF.
-pub(crate) fn next_line<'a>(text: &'a [u8], cursor: &mut Cursor) -> Result<&'a [u8], CertFault>
+pub fn next_line<'a>(text: &'a [u8], cursor: &mut Cursor) -> Result<&'a [u8], CertFault>
     requires { IsIn text.now cursor.old }
     ensures ok { IfOk result (λ line. IsNext text.now line.now cursor.old cursor.new × IsIn text.now cursor.new) }
     ensures err { IfErr result (λ e. (e ≡ fault.Text cursor.old.line) × IsMissing text.now cursor.old) }

@@ -11,7 +11,7 @@ use qm_trees::Entry;
 use std::alloc::Global;
 
 /// What a word says.
-pub(crate) trait Spoken: Sized {
+pub trait Spoken: Sized {
     ghost use Rattle.std.specs.Prelude.{◌≡◌, ℕ, List, Result};
     ghost use Rattle.qm_certread.specs.declared.fault.Misread.{Misread};
 

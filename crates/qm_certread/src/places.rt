@@ -7,7 +7,7 @@ ghost use Rattle.qm_certread.specs.Forms.{player_at};
 use qm_model::{Player, Problem, Var, is_for_all};
 
 /// The whole variables.
-pub(crate) fn whole_vars(problem: &Problem) -> &[Var]
+pub fn whole_vars(problem: &Problem) -> &[Var]
     requires { problem.now.wholes ≤ length problem.now.vars }
     ensures { result.now ≡ whole_vars problem.now }
 {
@@ -15,7 +15,7 @@ pub(crate) fn whole_vars(problem: &Problem) -> &[Var]
 }
 
 /// The variables from this place on.
-pub(crate) fn later(vars: &[Var], place: usize) -> &[Var]
+pub fn later(vars: &[Var], place: usize) -> &[Var]
     requires { place ≤ length vars.now }
     ensures { result.now ≡ drop place vars.now }
 {
@@ -23,7 +23,7 @@ pub(crate) fn later(vars: &[Var], place: usize) -> &[Var]
 }
 
 /// How many of the variables are universal.
-pub(crate) fn universal_count(vars: &[Var]) -> usize
+pub fn universal_count(vars: &[Var]) -> usize
     ensures { result ≡ universal_count vars.now }
 {
     let mut count = 0;
@@ -36,7 +36,7 @@ pub(crate) fn universal_count(vars: &[Var]) -> usize
 }
 
 /// How many continuous variables there are.
-pub(crate) fn continuous_count(problem: &Problem) -> usize
+pub fn continuous_count(problem: &Problem) -> usize
     requires { problem.now.wholes ≤ length problem.now.vars }
     ensures { result ≡ length (continuous_vars problem.now) }
 {
@@ -44,7 +44,7 @@ pub(crate) fn continuous_count(problem: &Problem) -> usize
 }
 
 /// Who sets the next variable; `None` where all whole ones are set.
-pub(crate) fn player_at(problem: &Problem, depth: usize) -> Option<Player>
+pub fn player_at(problem: &Problem, depth: usize) -> Option<Player>
     requires { problem.now.wholes ≤ length problem.now.vars }
     ensures player { result ≡ player_at problem.now depth }
     ensures inside { OnSome result (depth < length (whole_vars problem.now)) }

@@ -101,7 +101,7 @@ fn one_fraction(rest: &[u8]) -> Result<Frac, Misread>
 // ---- lines
 
 /// A line of this kind and a value.
-pub(crate) fn value_said(kind: &[u8], line: &[u8]) -> Result<i64, Misread>
+pub fn value_said(kind: &[u8], line: &[u8]) -> Result<i64, Misread>
     ensures { result ≡ said_behind (kind.now ∷ []) (one value_word) (words_of line.now) }
 {
     match behind(kind, line) {
@@ -111,7 +111,7 @@ pub(crate) fn value_said(kind: &[u8], line: &[u8]) -> Result<i64, Misread>
 }
 
 /// A line of this kind and a count.
-pub(crate) fn count_said(kind: &[u8], line: &[u8]) -> Result<u32, Misread>
+pub fn count_said(kind: &[u8], line: &[u8]) -> Result<u32, Misread>
     ensures { result ≡ said_behind (kind.now ∷ []) (one count_word) (words_of line.now) }
 {
     match behind(kind, line) {
@@ -131,7 +131,7 @@ fn fraction_said(kind: &[u8], line: &[u8]) -> Result<Frac, Misread>
 }
 
 /// A line of this kind and so many words.
-pub(crate) fn values_said<T: Spoken + Drop>(
+pub fn values_said<T: Spoken + Drop>(
     alloc: Global,
     kind: &[u8],
     count: usize,
@@ -146,7 +146,7 @@ pub(crate) fn values_said<T: Spoken + Drop>(
 }
 
 /// A first line.
-pub(crate) fn claim_said(line: &[u8]) -> Result<Claim, Misread>
+pub fn claim_said(line: &[u8]) -> Result<Claim, Misread>
     ensures { said_as claim_node result ≡ claim_said (words_of line.now) }
 {
     if is_alone(b"infeasible", line) {
@@ -194,7 +194,7 @@ fn two_values(rest: &[u8]) -> Result<Range, Misread>
 }
 
 /// A line of a range.
-pub(crate) fn range_said(line: &[u8]) -> Result<Range, Misread>
+pub fn range_said(line: &[u8]) -> Result<Range, Misread>
     ensures { result ≡ said_behind (codes "range" ∷ []) range_said (words_of line.now) }
 {
     match behind(b"range", line) {
@@ -311,7 +311,7 @@ fn plain_close_said(alloc: Global, line: &[u8]) -> Result<Combo, Unread>
 }
 
 /// A line of an empty tree that may split variables from this position on.
-pub(crate) fn empty_said(
+pub fn empty_said(
     alloc: Global,
     problem: &Problem,
     least: usize,
@@ -425,7 +425,7 @@ fn move_said(
 }
 
 /// A line of a refutation where so many variables are set.
-pub(crate) fn refute_said(
+pub fn refute_said(
     alloc: Global,
     problem: &Problem,
     depth: usize,

@@ -45,7 +45,7 @@ pub(crate) fn behind<'a>(kind: &[u8], line: &'a [u8]) -> Option<&'a [u8]>
 
 /// Whether the line is this word alone.
 #[tactic(auto, using(crate::proofs::WordCuts::none_behind))]
-pub(crate) fn is_alone(kind: &[u8], line: &[u8]) -> bool
+pub fn is_alone(kind: &[u8], line: &[u8]) -> bool
     ensures { result ≡ is_line (kind.now ∷ []) (words_of line.now) }
 {
     let (word, rest) = cut_word(line);
@@ -53,7 +53,7 @@ pub(crate) fn is_alone(kind: &[u8], line: &[u8]) -> bool
 }
 
 /// Whether the line is these two words.
-pub(crate) fn is_pair(kind: &[u8], other: &[u8], line: &[u8]) -> bool
+pub fn is_pair(kind: &[u8], other: &[u8], line: &[u8]) -> bool
     ensures { result ≡ is_line (kind.now ∷ other.now ∷ []) (words_of line.now) }
 {
     let (word, rest) = cut_word(line);

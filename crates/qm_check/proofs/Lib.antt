@@ -1,0 +1,10 @@
+pub mod TermSums
+pub mod LeastEnds
+pub mod Narrow
+pub mod Completions
+pub mod Boxes
+pub mod Plays
+pub mod DueTasks
+pub mod Judgements
+pub mod SaidParts
+pub mod Beginnings

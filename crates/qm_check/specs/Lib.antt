@@ -1,0 +1,10 @@
+pub mod Checking
+pub mod Completing
+pub mod Judging
+pub mod LineFaults
+pub mod Narrow
+pub mod PolicySaid
+pub mod Sums
+pub mod Texts
+pub mod TreeSaid
+pub mod Walks
