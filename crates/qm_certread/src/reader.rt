@@ -1,7 +1,7 @@
 ghost use Rattle.std.specs.Prelude.{◌≡◌, ◌≤◌, ◌<◌, ◌^◌, ◌∷◌, [], length, IfOk, IfErr, OnOk};
 ghost use Rattle.qm_model.specs.declared.game.Problem.{Problem};
 ghost use Rattle.qm_certfile.specs.declared.certificate.Certificate.{Certificate};
-ghost use Rattle.qm_certfile.specs.CertificateLines.{certificate_text, version_line};
+ghost use Rattle.qm_certfile.specs.CertificateLines.{certificate_text, claimed, version_line};
 ghost use Rattle.qm_certread.specs.Dues.{Played, Policy, Refute, Said, end_line, policy_line, refute_line};
 ghost use Rattle.qm_certread.specs.Nodes.{Fixed, Legal};
 ghost use Rattle.qm_certread.specs.NodesOf.{body_nodes, claim_of, policy_nodes, refute_nodes};
@@ -21,6 +21,7 @@ use crate::policy_reader::read_policy;
 use crate::refute_reader::read_refute;
 use crate::said::Claim;
 use qm_certfile::{Certificate, claimed};
+use qm_frac::Frac;
 use qm_io::List;
 use qm_model::{Game, Problem};
 use qm_trees::{Policy as Moves, Refute as Tree};
@@ -82,7 +83,7 @@ fn read_body(
             let legal = read_begin(alloc, problem, text, cursor)?;
             let policy = read_moves(alloc, problem, text, cursor)?;
             let refute = read_refutation(alloc, problem, text, cursor)?;
-            let value = claimed(problem.sense, value);
+            let value = maximised(problem, value);
             Ok(Certificate::Optimal {
                 value,
                 legal,
@@ -102,6 +103,13 @@ fn read_body(
             Ok(Certificate::Empty(tree))
         }
     }
+}
+
+/// The value of the maximised problem, by that in the sense of the file.
+fn maximised(problem: &Problem, shown: Frac) -> Frac
+    ensures { result ≡ claimed problem.now.sense shown }
+{
+    claimed(problem.sense, shown)
 }
 
 /// Reads the lines of the version and of the universal play.

@@ -51,13 +51,13 @@ returns-in_err-tree-in-NoPlay-clause-err c =
 
 pub returns-in_ok-refute-in-Optimal-clause-claim : goal.returns-in_ok-refute-in-Optimal-clause-claim
 returns-in_ok-refute-in-Optimal-clause-claim c =
-    ap Optimal (ap (claimed c.args.problem.now.sense) c.claimed-value.ensures ∙ claimed_twice c.args.problem.now.sense c.in-Optimal.value) ∙ ap claim_node (sym c.in-Optimal.is)
+    ap Optimal (ap (claimed c.args.problem.now.sense) c.maximised-value.ensures ∙ claimed_twice c.args.problem.now.sense c.in-Optimal.value) ∙ ap claim_node (sym c.in-Optimal.is)
 
 pub returns-in_ok-refute-in-Optimal-clause-ok : goal.returns-in_ok-refute-in-Optimal-clause-ok
 returns-in_ok-refute-in-Optimal-clause-ok c =
-    subst (λ (k : Claim). Meets c.args.problem.now c.args.text.now (body_dues k) (body_nodes first_style (ending.Optimal c.claimed-value.result c.in_ok-legal-in-Optimal.legal c.in_ok-policy-in-Optimal.policy c.in_ok-refute-in-Optimal.refute)) c.args.cursor.now c.read_refutation.new.cursor)
+    subst (λ (k : Claim). Meets c.args.problem.now c.args.text.now (body_dues k) (body_nodes first_style (ending.Optimal c.maximised-value.result c.in_ok-legal-in-Optimal.legal c.in_ok-policy-in-Optimal.policy c.in_ok-refute-in-Optimal.refute)) c.args.cursor.now c.read_refutation.new.cursor)
     (sym c.in-Optimal.is)
-    (optimal_meets c.args.problem.now c.args.text.now c.in-Optimal.value c.claimed-value.result c.in_ok-legal-in-Optimal.legal c.in_ok-policy-in-Optimal.policy c.in_ok-refute-in-Optimal.refute c.args.cursor.now c.read_begin.new.cursor c.read_moves.new.cursor c.read_refutation.new.cursor
+    (optimal_meets c.args.problem.now c.args.text.now c.in-Optimal.value c.maximised-value.result c.in_ok-legal-in-Optimal.legal c.in_ok-policy-in-Optimal.policy c.in_ok-refute-in-Optimal.refute c.args.cursor.now c.read_begin.new.cursor c.read_moves.new.cursor c.read_refutation.new.cursor
     c.in_ok-legal-in-Optimal.ensures.ok c.in_ok-policy-in-Optimal.ensures.ok c.in_ok-refute-in-Optimal.ensures.ok)
 
 pub returns-in_ok-refute-in-Infeasible-clause-ok : goal.returns-in_ok-refute-in-Infeasible-clause-ok
