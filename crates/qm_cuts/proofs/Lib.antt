@@ -1,0 +1,4 @@
+pub mod EntryRows
+pub mod Holding
+pub mod PoolPairs
+pub mod Deriving
