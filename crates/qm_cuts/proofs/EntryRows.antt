@@ -1,5 +1,5 @@
 -- The rows that the entries of a cut stand on, with their multipliers.
-use Rattle.std.proofs.Common.{◌≡◌, ◌∙◌, ap, refl, sym, subst, ℕ, zero, suc, ◌+◌, ◌-◌, ◌<◌, List, [], ◌∷◌, length, get_or, All, Option, Some, None, arith, ℤ, pos, negsuc, ◌+ℤ◌, ◌*ℤ◌, ◌≤ℤ◌, neg_ℤ}
+use Rattle.std.proofs.Common.{◌≡◌, ◌∙◌, refl, subst, ℕ, zero, suc, ◌+◌, ◌-◌, ◌<◌, List, [], ◌∷◌, length, get_or, All, Option, Some, None, arith, ℤ, pos, negsuc, ◌*ℤ◌, ◌≤ℤ◌, neg_ℤ}
 use Rattle.std.specs.Prelude.{slice_get}
 use Rattle.std.specs.Option.{option_map}
 use Rattle.std.proofs.Math.IntN.{zero-*ℤ}
@@ -15,7 +15,7 @@ use Rattle.qm_model.specs.declared.variable.Var.{Var}
 use Rattle.qm_model.specs.declared.game.Problem.{Problem}
 use Rattle.qm_model.specs.Linear.{form}
 use Rattle.qm_model.specs.Points.{AreWithinOver, HoldsOver}
-use Rattle.qm_model.proofs.Forms.{sum_of_terms, sum_over-sum_of_terms}
+use Rattle.qm_model.proofs.Forms.{sum_over-sum_of_terms}
 use Rattle.qm_trees.specs.declared.cut_combo.CutEntry.{CutEntry}
 use Rattle.qm_trees.specs.declared.cut_combo.CutRow.{CutRow}
 use Rattle.qm_trees.specs.declared.cut_combo.CutRow.TheVariants as on

@@ -1,36 +1,30 @@
 -- A whole point that meets the rows meets the cuts that are made of them.
-use Rattle.std.proofs.Common.{◌≡◌, ◌∙◌, ap, refl, sym, subst, ℕ, zero, suc, ◌+◌, ◌-◌, ◌<◌, List, [], ◌∷◌, ◌++◌, length, get_or, map, drop, All, Option, false, Some, None, arith, ℤ, pos, negsuc, ◌+ℤ◌, ◌*ℤ◌, ◌≤ℤ◌, neg_ℤ}
-use Rattle.std.specs.Prelude.{slice_get, take}
-use Rattle.std.specs.Option.{option_map}
-use Rattle.std.proofs.lemmas.Int.{ints}
-use Rattle.std.proofs.lemmas.List.{length-map, length-append, length-take, get_or_append_left, get_or-map}
-use Rattle.std.proofs.lemmas.List.Elements.{All-append, All-cons, All-head, All-nil, All-tail}
-use Rattle.std.proofs.lemmas.Option.{get_or_from_slice_get, slice_get_within}
+use Rattle.std.proofs.Common.{◌≡◌, ◌∙◌, ap, refl, ℕ, zero, suc, ◌+◌, ◌<◌, List, [], ◌∷◌, ◌++◌, length, get_or, map, drop, All, false, arith, ℤ, pos, ◌*ℤ◌, ◌≤ℤ◌}
+use Rattle.std.specs.Prelude.{take}
+use Rattle.std.proofs.lemmas.List.{length-map, length-append, get_or_append_left, get_or-map}
+use Rattle.std.proofs.lemmas.List.Elements.{All-append, All-cons, All-nil}
 use Rattle.qm_math.specs.Fraction.{Fraction, whole, IsSame, IsAtMost}
-use Rattle.qm_math.specs.Arithmetic.{sum_of, difference_of, product_of}
+use Rattle.qm_math.specs.Arithmetic.{product_of}
 use Rattle.qm_math.specs.Over.{over}
 use Rattle.qm_math.proofs.Over.{whole-over}
-use Rattle.qm_math.proofs.Polynomials.{number, ◌⊕◌, ◌⊗◌, minus}
-use Rattle.qm_math.proofs.Ring.{x0, x1, ring}
-use Rattle.qm_math.proofs.Compare.{at_most_trans, below_at_most_weak}
-use Rattle.qm_math.proofs.FractionLaws.{same_refl, same_sym, same_trans, sum_of-same, product_of-same, whole_den, sum_of_den, product_of_den, difference_of_den, sum_of-zero}
+use Rattle.qm_math.proofs.Compare.{at_most_trans}
+use Rattle.qm_math.proofs.FractionLaws.{same_refl, same_sym, same_trans, sum_of-same, product_of-same, whole_den, difference_of_den, sum_of-zero}
 use Rattle.qm_math.proofs.FractionOrder.{at_most-same, at_most_congr}
 use Rattle.qm_math.proofs.Rounding.{IsFloor-greatest}
 use Rattle.qm_math.proofs.Whole.{scaled_le}
 use Rattle.qm_model.specs.declared.row.Row.{Row}
-use Rattle.qm_model.specs.declared.row.Term.{Term}
 use Rattle.qm_model.specs.declared.variable.Var.{Var}
 use Rattle.qm_model.specs.declared.game.Problem.{Problem}
 use Rattle.qm_model.specs.Boxes.{whole_box_of}
 use Rattle.qm_model.specs.Legal.{IsComplete, IsPrefix}
 use Rattle.qm_model.specs.Linear.{coefficient, form}
-use Rattle.qm_model.specs.Plays.{BeginWithin, whole_vars}
+use Rattle.qm_model.specs.Plays.{BeginWithin}
 use Rattle.qm_model.specs.Points.{AreWithinOver, HoldsOver, Meets, Point, continuous_vars, values_over}
 use Rattle.qm_model.specs.Sound.{IsRowOver, IsSound}
-use Rattle.qm_model.proofs.UncertaintyRows.{AreTimes, form-times, length-complete}
+use Rattle.qm_model.proofs.UncertaintyRows.{form-times, length-complete}
 use Rattle.qm_trees.specs.declared.cut_combo.CutEntry.{CutEntry}
 use Rattle.qm_trees.specs.BoxPoints.{IsInBox, HoldsAt, form_of}
-use Rattle.qm_trees.specs.CutEntries.{IsMultiplier, rows_on, row_on}
+use Rattle.qm_trees.specs.CutEntries.{rows_on}
 use Rattle.qm_trees.specs.CutRules.{AreCutsAfter, Derived, IsCut}
 use Rattle.qm_trees.specs.Entries.{Weighted}
 use Rattle.qm_trees.specs.Evaluation.{combined_coefficient, right_side}

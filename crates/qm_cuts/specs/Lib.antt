@@ -1,3 +1,1 @@
 pub mod Pools
-pub mod Steps
-pub mod Answers

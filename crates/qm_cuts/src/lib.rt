@@ -1,4 +1,11 @@
-//! Rounded cuts.
+//! Rounded cuts, by Gomory and Chvátal: rows that each whole point keeps which meets the rows that they are combined
+//! from.
+//!
+//! `CutPool` keeps cuts in their order, each with what it is made of. `laws`: a whole point meets the cuts of what it
+//! meets, so that cuts in their order may stand beside the rows in combinations and relaxations, and a derivation gives
+//! a cut.
+//! Public clauses cite `IsCut`, `AreCuts` and `derivation` of qm_trees' `specs/CutRules`, its `HoldCuts`, and here
+//! `specs/Pools`. What cuts are made of is given on.
 #![tactic(auto)]
 
 mod fault;
@@ -8,3 +15,4 @@ mod pool;
 pub use fault::CutFault;
 pub use laws::{cuts_hold, derivations_give_cuts, whole_points_keep_cuts};
 pub use pool::CutPool;
+pub use qm_trees::{CutCombo, CutEntry, CutRow};

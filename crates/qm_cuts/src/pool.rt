@@ -24,7 +24,7 @@ impl Model for CutPool {
 }
 
 impl CutPool {
-    ghost use Rattle.std.specs.Prelude.{◌≡◌, ◌∷◌, ◌++◌, [], OnErr, OnOk};
+    ghost use Rattle.std.specs.Prelude.{◌≡◌, ◌∷◌, ◌++◌, [], OnErr, OnOk, length};
     ghost use Rattle.qm_cuts.specs.Pools.{combos_of, rows_of};
 
     /// A pool without cuts.
@@ -37,12 +37,21 @@ impl CutPool {
         }
     }
 
+    /// How many cuts there are.
+    pub fn len(&self) -> usize
+        ensures { result ≡ length self.now }
+    {
+        self.rows.len()
+    }
+
+    /// The cuts, in their order.
     pub fn rows(&self) -> &[Row]
         ensures { result.now ≡ rows_of self.now }
     {
         self.rows.as_slice()
     }
 
+    /// What each of them is made of.
     pub fn combos(&self) -> &[CutCombo]
         ensures { result.now ≡ combos_of self.now }
     {
