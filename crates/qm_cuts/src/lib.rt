@@ -11,6 +11,8 @@
 mod fault;
 mod laws;
 mod pool;
+mod seen;
+mod standing;
 
 pub use fault::CutFault;
 pub use laws::{cuts_hold, derivations_give_cuts, whole_points_keep_cuts};

@@ -1,0 +1,63 @@
+-- The steps of a derivation: what the entries stand on, and what is seen variable by variable.
+use Rattle.std.specs.Prelude.{◌≡◌, ℕ, suc, pos, Bool, ◌&&◌, if◌then◌else◌, List, [], ◌∷◌, ◌++◌, All, IfSome, Option, Some, None, Result, Ok, Err}
+use Rattle.std.specs.Ordering.{int_eq}
+use Rattle.qm_math.specs.Fraction.{Fraction}
+use Rattle.qm_frac.specs.Checked.{Checked}
+use Rattle.qm_model.specs.declared.row.Row.{Row}
+use Rattle.qm_model.specs.declared.row.Term.{Term}
+use Rattle.qm_model.specs.declared.variable.Var.{Var}
+use Rattle.qm_model.specs.declared.game.Problem.{Problem}
+use Rattle.qm_model.specs.Linear.{coefficient}
+use Rattle.qm_model.specs.Sound.{IsRowOver}
+use Rattle.qm_trees.specs.declared.cut_combo.CutEntry.{CutEntry}
+use Rattle.qm_trees.specs.CutEntries.{row_on}
+use Rattle.qm_trees.specs.CutRules.{may_stand}
+use Rattle.qm_trees.specs.Entries.{Weighted}
+use Rattle.qm_trees.specs.Evaluation.{◌>>=◌, add_coefficients, zero}
+use Rattle.qm_cuts.specs.declared.seen.Seen.{Seen}
+
+-- the rows, the uncertainty rows and the earlier cuts are rows over the variables
+pub record HasRowsOver (P : Problem) (earlier : List Row) : Type 0 where
+  pub rows : All (IsRowOver P.vars) P.rows
+  pub urows : All (IsRowOver P.vars) P.urows
+  pub cuts : All (IsRowOver P.vars) earlier
+
+-- no row that an entry stands on has the variable
+abbrev pub HaveNo : Problem → List Row → List CutEntry → ℕ → Type 0
+HaveNo P earlier es var = All (λ e. IfSome (row_on P earlier e.on) (λ row. coefficient row.terms var ≡ pos 0)) es
+
+-- ---- the variables of a cut, one by one
+
+-- the first of two
+abbrev pub or_later : Option ℕ → Option ℕ → Option ℕ
+or_later None later = later
+or_later (Some var) later = Some var
+
+-- the variable, where its coefficient may not stand
+abbrev pub broken_at : ℕ → Var → Fraction → Option ℕ
+broken_at var x c = if may_stand x c then None else Some var
+
+-- the term of a coefficient that isn't 0
+abbrev pub term_of : ℕ → Fraction → List Term
+term_of var c = if int_eq c.num (pos 0) then [] else record { var = var; coef = c.num } ∷ []
+
+abbrev pub nothing_seen : Seen
+nothing_seen = record { broken = None; terms = [] }
+
+abbrev pub seen_with : ℕ → Var → Fraction → Seen → Seen
+seen_with var x c seen = record { broken = or_later seen.broken (broken_at var x c); terms = seen.terms ++ term_of var c }
+
+-- each of these variables, numbered from `var` on
+abbrev pub see_each : List Weighted → ℕ → List Var → Seen → Checked Seen
+see_each ws var [] seen = Ok seen
+see_each ws var (x ∷ xs) seen = add_coefficients var ws zero >>= λ c. see_each ws (suc var) xs (seen_with var x c seen)
+
+-- ---- the variables of a row that is tested, one by one
+
+-- the coefficient may stand, and is that of the terms
+abbrev pub fits_at : List Term → ℕ → Var → Fraction → Bool
+fits_at ts var x c = may_stand x c && int_eq c.num (coefficient ts var)
+
+abbrev pub fit_each : List Weighted → List Term → ℕ → List Var → Bool → Checked Bool
+fit_each ws ts var [] fit = Ok fit
+fit_each ws ts var (x ∷ xs) fit = add_coefficients var ws zero >>= λ c. fit_each ws ts (suc var) xs (fit && fits_at ts var x c)
