@@ -2,3 +2,4 @@ pub mod EntryRows
 pub mod Holding
 pub mod PoolPairs
 pub mod Deriving
+pub mod EachEntry

@@ -1,30 +1,41 @@
 -- The steps of a derivation: what the entries stand on, and what is seen variable by variable.
-use Rattle.std.specs.Prelude.{◌≡◌, ℕ, suc, pos, Bool, ◌&&◌, if◌then◌else◌, List, [], ◌∷◌, ◌++◌, All, IfSome, Option, Some, None, Result, Ok, Err}
+use Rattle.std.specs.Prelude.{◌≡◌, ℕ, suc, ℤ, pos, Bool, ◌&&◌, if◌then◌else◌, List, [], ◌∷◌, ◌++◌, All, IfSome, IsSome, IsSomeAnd, slice_get, Option, Some, None, Result, Ok, Err}
 use Rattle.std.specs.Ordering.{int_eq}
-use Rattle.qm_math.specs.Fraction.{Fraction}
-use Rattle.qm_frac.specs.Checked.{Checked}
+use Rattle.qm_math.specs.Fraction.{Fraction, whole}
+use Rattle.qm_frac.specs.Checked.{Checked, added, multiplied}
 use Rattle.qm_model.specs.declared.row.Row.{Row}
 use Rattle.qm_model.specs.declared.row.Term.{Term}
 use Rattle.qm_model.specs.declared.variable.Var.{Var}
 use Rattle.qm_model.specs.declared.game.Problem.{Problem}
 use Rattle.qm_model.specs.Linear.{coefficient}
-use Rattle.qm_model.specs.Sound.{IsRowOver}
 use Rattle.qm_trees.specs.declared.cut_combo.CutEntry.{CutEntry}
+use Rattle.qm_trees.specs.declared.cut_combo.CutRow.{CutRow}
+use Rattle.qm_trees.specs.declared.cut_combo.CutRow.TheVariants as on
 use Rattle.qm_trees.specs.CutEntries.{row_on}
 use Rattle.qm_trees.specs.CutRules.{may_stand}
 use Rattle.qm_trees.specs.Entries.{Weighted}
 use Rattle.qm_trees.specs.Evaluation.{◌>>=◌, add_coefficients, zero}
+use Rattle.qm_combo.specs.Entries.{IsNarrow}
 use Rattle.qm_cuts.specs.declared.seen.Seen.{Seen}
 
--- the rows, the uncertainty rows and the earlier cuts are rows over the variables
-pub record HasRowsOver (P : Problem) (earlier : List Row) : Type 0 where
-  pub rows : All (IsRowOver P.vars) P.rows
-  pub urows : All (IsRowOver P.vars) P.urows
-  pub cuts : All (IsRowOver P.vars) earlier
+-- the row is there, and its numbers are fractions of the program, as those of a bound always are
+abbrev pub IsUsable : Problem → List Row → CutRow → Type 0
+IsUsable P earlier (on.Row n) = IsSomeAnd (slice_get P.rows n) IsNarrow
+IsUsable P earlier (on.Uncertain n) = IsSomeAnd (slice_get P.urows n) IsNarrow
+IsUsable P earlier (on.Cut n) = IsSomeAnd (slice_get earlier n) IsNarrow
+IsUsable P earlier (on.Low n) = IsSome (slice_get P.vars n)
+IsUsable P earlier (on.High n) = IsSome (slice_get P.vars n)
+
+abbrev pub AreUsable : Problem → List Row → List CutEntry → Type 0
+AreUsable P earlier es = All (λ e. IsUsable P earlier e.on) es
 
 -- no row that an entry stands on has the variable
 abbrev pub HaveNo : Problem → List Row → List CutEntry → ℕ → Type 0
 HaveNo P earlier es var = All (λ e. IfSome (row_on P earlier e.on) (λ row. coefficient row.terms var ≡ pos 0)) es
+
+-- the coefficient's multiple is added, where it isn't 0
+abbrev pub add_multiple : Fraction → ℤ → Fraction → Checked Fraction
+add_multiple by k c = if int_eq k (pos 0) then Ok c else (multiplied by (whole k) >>= λ p. added c p)
 
 -- ---- the variables of a cut, one by one
 

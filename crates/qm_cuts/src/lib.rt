@@ -13,6 +13,7 @@ mod laws;
 mod pool;
 mod seen;
 mod standing;
+mod sums;
 
 pub use fault::CutFault;
 pub use laws::{cuts_hold, derivations_give_cuts, whole_points_keep_cuts};

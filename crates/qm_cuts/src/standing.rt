@@ -1,12 +1,12 @@
-ghost use Rattle.std.specs.Prelude.{◌≡◌, ℕ, ◌<◌, ◌≤◌, ◌^◌, pos, IfSome, IsSome, is_some, slice_get, length, unsigned_abs};
+ghost use Rattle.std.specs.Prelude.{◌≡◌, ◌<◌, ◌≤◌, ◌^◌, pos, IfSome, IsSomeAnd, is_some, slice_get, unsigned_abs};
 ghost use Rattle.std.specs.List.{list_all};
-ghost use Rattle.qm_model.specs.Linear.{IsOrdered, coefficient};
-ghost use Rattle.qm_model.specs.Sound.{IsRowOver};
-ghost use Rattle.qm_trees.specs.CutEntries.{row_on};
-ghost use Rattle.qm_cuts.specs.Steps.{HasRowsOver};
+ghost use Rattle.qm_model.specs.Linear.{coefficient};
+ghost use Rattle.qm_trees.specs.CutEntries.{bound_row, row_on};
+ghost use Rattle.qm_combo.specs.Entries.{IsNarrow};
+ghost use Rattle.qm_cuts.specs.Steps.{IsUsable};
 
 use qm_combo::coefficient_of;
-use qm_model::{Problem, Row, Term, Var};
+use qm_model::{Problem, Row, Var};
 use qm_trees::{CutEntry, CutRow};
 
 /// Whether the row that an entry stands on is there.
@@ -34,13 +34,12 @@ pub(crate) fn all_there(problem: &Problem, earlier: &[Row], entries: &[CutEntry]
     true
 }
 
-/// The right side of a row.
-fn right_of(row: &Row) -> i128
-    requires { unsigned_abs row.now.right < 2 ^ 127 }
-    ensures value { result ≡ row.now.right }
+fn right_at(rows: &[Row], number: u32) -> i128
+    requires { IsSomeAnd (slice_get rows.now number) IsNarrow }
+    ensures value { IfSome (slice_get rows.now number) (λ row. result ≡ row.right) }
     ensures narrow { unsigned_abs result < 2 ^ 127 }
 {
-    row.right
+    rows[number as usize].right
 }
 
 fn low_of(x: &Var) -> i128
@@ -59,16 +58,46 @@ fn high_of(x: &Var) -> i128
 
 /// The right side of the row that an entry stands on.
 pub(crate) fn right_on(problem: &Problem, earlier: &[Row], on: CutRow) -> i128
-    requires over { HasRowsOver problem.now earlier.now }
-    requires there { IsSome (row_on problem.now earlier.now on) }
+    requires { IsUsable problem.now earlier.now on }
     ensures value { IfSome (row_on problem.now earlier.now on) (λ row. result ≡ row.right) }
     ensures narrow { unsigned_abs result < 2 ^ 127 }
 {
     match on {
-        CutRow::Row(number) => right_of(&problem.rows.as_slice()[number as usize]),
-        CutRow::Uncertain(number) => right_of(&problem.urows.as_slice()[number as usize]),
-        CutRow::Cut(number) => right_of(&earlier[number as usize]),
+        CutRow::Row(number) => right_at(problem.rows.as_slice(), number),
+        CutRow::Uncertain(number) => right_at(problem.urows.as_slice(), number),
+        CutRow::Cut(number) => right_at(earlier, number),
         CutRow::Low(var) => -low_of(&problem.vars.as_slice()[var as usize]),
         CutRow::High(var) => high_of(&problem.vars.as_slice()[var as usize]),
+    }
+}
+
+fn coefficient_at(rows: &[Row], number: u32, var: u32) -> i128
+    requires { IsSomeAnd (slice_get rows.now number) IsNarrow }
+    ensures value { IfSome (slice_get rows.now number) (λ row. result ≡ coefficient row.terms var) }
+    ensures narrow { unsigned_abs result < 2 ^ 127 }
+{
+    coefficient_of(rows[number as usize].terms.as_slice(), var)
+}
+
+fn bound_coefficient(sign: i128, of: u32, var: u32) -> i128
+    requires { unsigned_abs sign ≤ 1 }
+    ensures value { result ≡ coefficient (bound_row sign of (pos 0)).terms var }
+    ensures narrow { unsigned_abs result < 2 ^ 127 }
+{
+    if of == var { sign } else { 0 }
+}
+
+/// The variable's coefficient in the row that an entry stands on.
+pub(crate) fn coefficient_on(problem: &Problem, earlier: &[Row], on: CutRow, var: u32) -> i128
+    requires { IsUsable problem.now earlier.now on }
+    ensures value { IfSome (row_on problem.now earlier.now on) (λ row. result ≡ coefficient row.terms var) }
+    ensures narrow { unsigned_abs result < 2 ^ 127 }
+{
+    match on {
+        CutRow::Row(number) => coefficient_at(problem.rows.as_slice(), number, var),
+        CutRow::Uncertain(number) => coefficient_at(problem.urows.as_slice(), number, var),
+        CutRow::Cut(number) => coefficient_at(earlier, number, var),
+        CutRow::Low(of) => bound_coefficient(-1, of, var),
+        CutRow::High(of) => bound_coefficient(1, of, var),
     }
 }
