@@ -22,7 +22,7 @@ use Rattle.qm_trees.specs.CutEntries.{high_row, low_row, row_on, rows_on}
 use Rattle.qm_trees.specs.CutRules.{AreThere}
 use Rattle.qm_trees.specs.Entries.{with_row}
 use Rattle.qm_trees.specs.Evaluation.{add_coefficients, add_right_sides}
-use Rattle.qm_cuts.specs.Steps.{AreUsable, IsUsable, add_multiple}
+use Rattle.qm_cuts.specs.Steps.{AreUsable, IsUsable, add_multiple, add_product}
 
 -- ---- those that are there are usable
 
@@ -73,19 +73,20 @@ row_with P earlier row Q usable says = by_row (row_on P earlier row) refl (is_th
     by_row None e there says = cc
     by_row (Some r) e there says = (r, e, says)
 
-pub right_more : (P : Problem) (earlier : List Row) (es : List CutEntry) (i : ℕ) (d : CutEntry) (right : ℤ) (sum : Fraction) → i < length es → AreUsable P earlier es
-    → IfSome (row_on P earlier (get_or es i d).on) (λ row. right ≡ row.right)
-    → add_right_sides (rows_on P earlier (drop i es)) sum
-    ≡ and_then (multiplied (get_or es i d).by (whole right)) (λ p. and_then (added sum p) (λ s. add_right_sides (rows_on P earlier (drop (i + 1) es)) s))
-right_more P earlier es i d right sum h usable is =
-    let r = row_with P earlier (get_or es i d).on (λ row. right ≡ row.right) (usable i d h) is in
-    ap (λ ws. add_right_sides ws sum) (rows_more P earlier es i d r.0 h r.1) ∙ rw (sym r.2) refl
-
 skipped_or : (b : Bool) (x : Checked Fraction) (c : Fraction) (f : Fraction → Checked Fraction) (next : Fraction → Checked Fraction)
     → (let y : Checked Fraction = if b then next c else and_then x (λ p. and_then (f p) next) in y) ≡ and_then (if b then Ok c else and_then x f) next
 skipped_or true x c f next = refl
 skipped_or false (Err e) c f next = refl
 skipped_or false (Ok p) c f next = refl
+
+pub right_more : (P : Problem) (earlier : List Row) (es : List CutEntry) (i : ℕ) (d : CutEntry) (right : ℤ) (sum : Fraction) → i < length es → AreUsable P earlier es
+    → IfSome (row_on P earlier (get_or es i d).on) (λ row. right ≡ row.right)
+    → add_right_sides (rows_on P earlier (drop i es)) sum
+    ≡ and_then (add_product (get_or es i d).by right sum) (λ s. add_right_sides (rows_on P earlier (drop (i + 1) es)) s)
+right_more P earlier es i d right sum h usable is =
+    let r = row_with P earlier (get_or es i d).on (λ row. right ≡ row.right) (usable i d h) is in
+    ap (λ ws. add_right_sides ws sum) (rows_more P earlier es i d r.0 h r.1)
+    ∙ rw (sym r.2) (skipped_or false (multiplied (get_or es i d).by (whole right)) sum (λ p. added sum p) (λ s. add_right_sides (rows_on P earlier (drop (i + 1) es)) s))
 
 pub coefficient_more : (P : Problem) (earlier : List Row) (es : List CutEntry) (i : ℕ) (d : CutEntry) (var : ℕ) (k : ℤ) (sum : Fraction) → i < length es → AreUsable P earlier es
     → IfSome (row_on P earlier (get_or es i d).on) (λ row. k ≡ coefficient row.terms var)

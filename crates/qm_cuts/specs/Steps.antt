@@ -33,9 +33,13 @@ AreUsable P earlier es = All (λ e. IsUsable P earlier e.on) es
 abbrev pub HaveNo : Problem → List Row → List CutEntry → ℕ → Type 0
 HaveNo P earlier es var = All (λ e. IfSome (row_on P earlier e.on) (λ row. coefficient row.terms var ≡ pos 0)) es
 
--- the coefficient's multiple is added, where it isn't 0
+-- the multiplier times the number is added
+abbrev pub add_product : Fraction → ℤ → Fraction → Checked Fraction
+add_product by k c = multiplied by (whole k) >>= λ p. added c p
+
+-- where the number isn't 0
 abbrev pub add_multiple : Fraction → ℤ → Fraction → Checked Fraction
-add_multiple by k c = if int_eq k (pos 0) then Ok c else (multiplied by (whole k) >>= λ p. added c p)
+add_multiple by k c = if int_eq k (pos 0) then Ok c else add_product by k c
 
 -- ---- the variables of a cut, one by one
 

@@ -10,6 +10,7 @@
 
 mod fault;
 mod laws;
+mod nexts;
 mod pool;
 mod seen;
 mod standing;

@@ -1,7 +1,7 @@
 ghost use Rattle.std.specs.Prelude.{◌≡◌, ◌<◌, ◌^◌, unsigned_abs};
 ghost use Rattle.qm_trees.specs.CutEntries.{rows_on};
 ghost use Rattle.qm_trees.specs.Evaluation.{add_coefficients, add_right_sides, zero};
-ghost use Rattle.qm_cuts.specs.Steps.{AreUsable, add_multiple};
+ghost use Rattle.qm_cuts.specs.Steps.{AreUsable, add_multiple, add_product};
 
 use crate::standing::{coefficient_on, right_on};
 use qm_frac::{Frac, Leaves, over_one};
@@ -21,13 +21,21 @@ pub(crate) fn add_right_sides(
     let mut sum = Frac::whole(0);
     for entry in entries {
         let right = right_on(problem, earlier, entry.on);
-        let product = entry.by.mul(over_one(right))?;
-        sum = sum.add(product)?;
+        sum = add_product(entry.by, right, sum)?;
     }
     Ok(sum)
 }
 
-/// To the sum so far, the multiple of a coefficient that isn't 0.
+/// To the sum so far, the multiplier times the number.
+fn add_product(by: Frac, number: i128, sum: Frac) -> Result<Frac, Leaves>
+    requires { unsigned_abs number < 2 ^ 127 }
+    ensures { result ≡ add_product by number sum }
+{
+    let product = by.mul(over_one(number))?;
+    sum.add(product)
+}
+
+/// The same, where the number is a coefficient that isn't 0.
 fn add_multiple(by: Frac, coefficient: i128, sum: Frac) -> Result<Frac, Leaves>
     requires { unsigned_abs coefficient < 2 ^ 127 }
     ensures { result ≡ add_multiple by coefficient sum }
@@ -35,8 +43,7 @@ fn add_multiple(by: Frac, coefficient: i128, sum: Frac) -> Result<Frac, Leaves>
     if coefficient == 0 {
         return Ok(sum);
     }
-    let product = by.mul(over_one(coefficient))?;
-    sum.add(product)
+    add_product(by, coefficient, sum)
 }
 
 /// Each multiplier times its row's coefficient of the variable, added up.
