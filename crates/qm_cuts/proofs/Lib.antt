@@ -3,3 +3,4 @@ pub mod Holding
 pub mod PoolPairs
 pub mod Deriving
 pub mod EachEntry
+pub mod EachVariable

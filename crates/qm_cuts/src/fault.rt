@@ -20,3 +20,13 @@ impl From<Memory> for CutFault {
         CutFault::Memory
     }
 }
+
+impl From<Leaves> for CutFault {
+    ghost use Rattle.qm_cuts.specs.declared.fault.CutFault.TheVariants as fault;
+
+    ghost from_gives = { λ leaves. fault.Leaves leaves };
+
+    fn from(leaves: Leaves) -> Self {
+        CutFault::Leaves(leaves)
+    }
+}

@@ -13,6 +13,8 @@ mod laws;
 mod nexts;
 mod pool;
 mod seen;
+mod sight;
+mod size;
 mod standing;
 mod sums;
 
