@@ -30,8 +30,8 @@ no_coefficient P earlier (e ∷ es) var c none =
   where
     by_row : (o : Option Row) → row_on P earlier e.on ≡ o → IfSome o (λ row. coefficient row.terms var ≡ pos 0) → add_coefficients var (rows_on P earlier es) c ≡ Ok c
         → add_coefficients var (rows_on P earlier (e ∷ es)) c ≡ Ok c
-    by_row None is zero later = rw is later
-    by_row (Some row) is zero later = rw (is, zero) later
+    by_row None is says later = rw is later
+    by_row (Some row) is says later = rw (is, says) later
 
 zero_stands : (x : Var) → may_stand x nothing ≡ true
 zero_stands x = by_kind x.whole
@@ -74,4 +74,4 @@ pub see_more : (ws : List Weighted) (xs : List Var) (i : ℕ) (x : Var) (seen : 
 see_more ws xs i x seen h = at_drop_more (λ ys. see_each ws i ys seen) xs i x h ∙ rw add-one refl
 
 pub see_end : (ws : List Weighted) (xs : List Var) (i : ℕ) (seen : Seen) → length xs ≤ i → see_each ws i (drop i xs) seen ≡ Ok seen
-see_end ws xs i seen h = rw (drop_all xs i h) refl
+see_end ws xs i seen h = ap (λ ys. see_each ws i ys seen) (drop_all i xs h)

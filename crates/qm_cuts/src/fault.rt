@@ -16,15 +16,21 @@ pub enum CutFault {
 }
 
 impl From<Memory> for CutFault {
+    ghost use Rattle.std.specs.Prelude.{◌≡◌};
+    ghost use Rattle.qm_cuts.specs.declared.fault.CutFault.TheVariants as fault;
+
+    ghost from_gives = { λ _ e. e ≡ fault.Memory };
+
     fn from(_: Memory) -> Self {
         CutFault::Memory
     }
 }
 
 impl From<Leaves> for CutFault {
+    ghost use Rattle.std.specs.Prelude.{◌≡◌};
     ghost use Rattle.qm_cuts.specs.declared.fault.CutFault.TheVariants as fault;
 
-    ghost from_gives = { λ leaves. fault.Leaves leaves };
+    ghost from_gives = { λ leaves e. e ≡ fault.Leaves leaves };
 
     fn from(leaves: Leaves) -> Self {
         CutFault::Leaves(leaves)

@@ -17,6 +17,7 @@ mod sight;
 mod size;
 mod standing;
 mod sums;
+mod tested;
 
 pub use fault::CutFault;
 pub use laws::{cuts_hold, derivations_give_cuts, whole_points_keep_cuts};

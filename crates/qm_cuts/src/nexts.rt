@@ -27,7 +27,7 @@ fn place_from(terms: &[Term], var: u32) -> usize
 }
 
 /// The first variable from `from` on that the terms have, unless `limit` comes before it.
-fn next_in(terms: &[Term], from: u32, limit: u32) -> u32
+pub(crate) fn next_in(terms: &[Term], from: u32, limit: u32) -> u32
     requires ordered { IsOrdered terms.now }
     requires room { from ≤ limit }
     ensures later { from ≤ result }
