@@ -274,7 +274,7 @@ module _ (P : Problem) (earlier : List Row) (es : List CutEntry) (row : Row) (so
             (floor_of-IsFloor d.right exact.positive));
       }
 
-a_variable : Var
+pub a_variable : Var
 a_variable = record { name = []; player = Exists; whole = true; low = pos 0; high = pos 0 }
 
 pub derivation_is_cut : (P : Problem) (earlier : List Row) (es : List CutEntry) (row : Row) → IsSound P → AreCutEntries es → derivation P earlier es ≡ Gives row → IsCut P earlier es row

@@ -1,4 +1,4 @@
-ghost use Rattle.std.specs.Prelude.{◌≡◌, ℕ, ◌<◌, ◌≤◌, ◌^◌, ◌↔◌, pos, IsTrue, true, length};
+ghost use Rattle.std.specs.Prelude.{◌≡◌, ℕ, ◌<◌, ◌≤◌, ◌^◌, ◌&&◌, ◌↔◌, pos, IsTrue, true, length};
 ghost use Rattle.qm_model.specs.Linear.{HasVarsBelow, IsOrdered, coefficient};
 ghost use Rattle.qm_trees.specs.CutEntries.{rows_on};
 ghost use Rattle.qm_cuts.specs.Steps.{AreUsable, HaveNo, fit_each, fits_at};
@@ -24,6 +24,14 @@ fn fits_at(terms: &[Term], var: u32, x: &Var, coefficient: Frac) -> bool
     ensures { result ≡ fits_at terms.now var x.now coefficient }
 {
     may_stand(x, coefficient) && coefficient.num() == coefficient_of(terms, var)
+}
+
+/// Whether that fits too, where all before did.
+fn still_fit(fit: bool, terms: &[Term], var: u32, x: &Var, coefficient: Frac) -> bool
+    requires { IsOrdered terms.now }
+    ensures { result ≡ (fit && fits_at terms.now var x.now coefficient) }
+{
+    fit && fits_at(terms, var, x, coefficient)
 }
 
 /// The first variable from `from` on that the terms have, or a row that an entry stands on.
@@ -65,8 +73,7 @@ pub(crate) fn fit_each(
     let mut var = next_of_both(problem, earlier, entries, terms, 0);
     while (var as usize) < vars.len() {
         let coefficient = add_coefficients(problem, earlier, entries, var)?;
-        let fits = fits_at(terms, var, &vars[var as usize], coefficient);
-        fit = fit && fits;
+        fit = still_fit(fit, terms, var, &vars[var as usize], coefficient);
         var = next_of_both(problem, earlier, entries, terms, var + 1);
     }
     Ok(fit)
