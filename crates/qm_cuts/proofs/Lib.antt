@@ -4,3 +4,4 @@ pub mod PoolPairs
 pub mod Deriving
 pub mod EachEntry
 pub mod EachVariable
+pub mod Derivations

@@ -1,13 +1,15 @@
 -- The steps of a derivation: what the entries stand on, and what is seen variable by variable.
-use Rattle.std.specs.Prelude.{◌≡◌, ℕ, suc, ℤ, pos, Bool, ◌&&◌, if◌then◌else◌, List, [], ◌∷◌, ◌++◌, All, IfSome, IsSome, IsSomeAnd, slice_get, Option, Some, None, Result, Ok, Err}
+use Rattle.std.specs.Prelude.{◌≡◌, ◌≤◌, ◌^◌, true, length, ℕ, suc, ℤ, pos, Bool, ◌&&◌, if◌then◌else◌, List, [], ◌∷◌, ◌++◌, All, IfSome, IsSome, IsSomeAnd, slice_get, Option, Some, None, Result, Ok, Err}
 use Rattle.std.specs.Ordering.{int_eq}
 use Rattle.qm_math.specs.Fraction.{Fraction, whole}
+use Rattle.qm_math.specs.Rounding.{floor_of}
 use Rattle.qm_frac.specs.Checked.{Checked, added, multiplied}
 use Rattle.qm_model.specs.declared.row.Row.{Row}
 use Rattle.qm_model.specs.declared.row.Term.{Term}
 use Rattle.qm_model.specs.declared.variable.Var.{Var}
 use Rattle.qm_model.specs.declared.game.Problem.{Problem}
-use Rattle.qm_model.specs.Linear.{coefficient}
+use Rattle.qm_model.specs.Linear.{HasVarsBelow, coefficient}
+use Rattle.qm_model.specs.Sizes.{reach_in_vars, row_size}
 use Rattle.qm_trees.specs.declared.cut_combo.CutEntry.{CutEntry}
 use Rattle.qm_trees.specs.declared.cut_combo.CutRow.{CutRow}
 use Rattle.qm_trees.specs.declared.cut_combo.CutRow.TheVariants as on
@@ -76,3 +78,10 @@ fits_at ts var x c = may_stand x c && int_eq c.num (coefficient ts var)
 abbrev pub fit_each : List Weighted → List Term → ℕ → List Var → Bool → Checked Bool
 fit_each ws ts var [] fit = Ok fit
 fit_each ws ts var (x ∷ xs) fit = add_coefficients var ws zero >>= λ c. fit_each ws ts (suc var) xs (fit && fits_at ts var x c)
+
+-- the coefficients fit, the right side is rounded down to this row's, its variables are there, and it is not too wide
+pub record IsFound (fit : Bool) (xs : List Var) (right : Fraction) (row : Row) : Type 0 where
+  pub fits : fit ≡ true
+  pub floor : row.right ≡ floor_of right
+  pub vars : HasVarsBelow (length xs) row.terms
+  pub size : row_size (reach_in_vars xs) row ≤ 2 ^ 126

@@ -8,6 +8,7 @@
 //! `specs/Pools`. What cuts are made of is given on.
 #![tactic(auto)]
 
+mod derivation;
 mod fault;
 mod laws;
 mod nexts;
@@ -19,7 +20,9 @@ mod standing;
 mod sums;
 mod tested;
 
+pub use derivation::{add, derive};
 pub use fault::CutFault;
 pub use laws::{cuts_hold, derivations_give_cuts, whole_points_keep_cuts};
 pub use pool::CutPool;
 pub use qm_trees::{CutCombo, CutEntry, CutRow};
+pub use tested::test_cut;

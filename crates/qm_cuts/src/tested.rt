@@ -1,15 +1,20 @@
-ghost use Rattle.std.specs.Prelude.{◌≡◌, ℕ, ◌<◌, ◌≤◌, ◌^◌, ◌&&◌, ◌↔◌, pos, IsTrue, true, length};
+ghost use Rattle.std.specs.Prelude.{◌≡◌, ℕ, ◌<◌, ◌≤◌, ◌^◌, ◌&&◌, ◌↔◌, pos, All, IsTrue, true, length};
 ghost use Rattle.qm_model.specs.Linear.{HasVarsBelow, IsOrdered, coefficient};
+ghost use Rattle.qm_model.specs.Sound.{IsRowOver};
 ghost use Rattle.qm_trees.specs.CutEntries.{rows_on};
-ghost use Rattle.qm_cuts.specs.Steps.{AreUsable, HaveNo, fit_each, fits_at};
+ghost use Rattle.qm_trees.specs.CutRules.{derivation};
+ghost use Rattle.qm_cuts.specs.Answers.{IsVerdict};
+ghost use Rattle.qm_cuts.specs.Steps.{AreUsable, HaveNo, IsFound, fit_each, fits_at};
 
 use crate::nexts::{next_in, next_variable};
 use crate::sight::may_stand;
-use crate::sums::add_coefficients;
+use crate::size::has_size;
+use crate::standing::all_there;
+use crate::sums::{add_coefficients, add_right_sides};
 use qm_combo::coefficient_of;
 use qm_frac::{Frac, Leaves};
-use qm_model::{Problem, Row, Term, Var};
-use qm_trees::CutEntry;
+use qm_model::{Game, Problem, Row, Term, Var};
+use qm_trees::{CutCombo, CutEntry};
 
 /// Whether each term is of a variable numbered below `count`.
 pub(crate) fn are_below(terms: &[Term], count: usize) -> bool
@@ -77,4 +82,35 @@ pub(crate) fn fit_each(
         var = next_of_both(problem, earlier, entries, terms, var + 1);
     }
     Ok(fit)
+}
+
+/// Whether the row has what was found: the coefficients, as `fit` tells, the right side, the variables and the size.
+fn is_found(fit: bool, vars: &[Var], right: Frac, row: &Row) -> bool
+    ensures { IsTrue result ↔ IsFound fit vars.now right row.now }
+{
+    if !fit || row.right != right.floor() {
+        return false;
+    }
+    are_below(row.terms.as_slice(), vars.len()) && has_size(vars, row)
+}
+
+/// Whether these entries, among the rows and the earlier cuts, make this very cut. Leaves exactly where the first
+/// operation of the evaluation leaves.
+pub fn test_cut(
+    game: &Game,
+    earlier: &[Row],
+    combo: &CutCombo,
+    row: &Row,
+) -> Result<bool, Leaves>
+    requires { All (IsRowOver game.now.vars) earlier.now }
+    ensures { IsVerdict (derivation game.now earlier.now combo.now) row.now result }
+{
+    let problem = game.problem();
+    let entries = combo.entries();
+    if !all_there(problem, earlier, entries) {
+        return Ok(false);
+    }
+    let right = add_right_sides(problem, earlier, entries)?;
+    let fit = fit_each(problem, earlier, entries, row.terms.as_slice())?;
+    Ok(is_found(fit, problem.vars.as_slice(), right, row))
 }

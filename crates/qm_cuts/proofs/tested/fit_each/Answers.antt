@@ -27,7 +27,7 @@ loop-var-preserved c =
     let below = rw c.as_slice-vars.ensures at c.loop-var-test.true in
     let adds = sym c.add_coefficients.ensures ∙ c.in_ok-coefficient.was in
     let at = rw c.as_slice-vars.ensures at c.index-vars-var.is in
-    let after = c.still_fit.ensures ∙ ap (λ x. c.loop-var.fit && fits_at c.args.terms.now c.loop-var.var x c.in_ok-coefficient.coefficient) at in
+    let after = c.still_fit-fit.ensures ∙ ap (λ x. c.loop-var.fit && fits_at c.args.terms.now c.loop-var.var x c.in_ok-coefficient.coefficient) at in
     record {
       within = next.within;
       from_here =
