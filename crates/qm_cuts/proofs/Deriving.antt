@@ -150,11 +150,11 @@ pub record IsDerived (P : Problem) (earlier : List Row) (es : List CutEntry) (ro
   pub row_is : record { terms = terms_from 0 coefficients; right = floor_of right } ≡ row
   pub size : row_size (reach_in_vars P.vars) row ≤ 2 ^ 126
 
-if_gives : (b : Bool) (r row : Row) → (if b then Gives r else Wide) ≡ Gives row → (b ≡ true) × (r ≡ row)
+pub if_gives : (b : Bool) (r row : Row) → (if b then Gives r else Wide) ≡ Gives row → (b ≡ true) × (r ≡ row)
 if_gives true r row h = (refl, cc)
 if_gives false r row h = cc
 
-unless_gives : (o : Option ℕ) (d : Derivation) (row : Row) → unless_broken o d ≡ Gives row → (o ≡ None) × (d ≡ Gives row)
+pub unless_gives : (o : Option ℕ) (d : Derivation) (row : Row) → unless_broken o d ≡ Gives row → (o ≡ None) × (d ≡ Gives row)
 unless_gives None d row h = (refl, h)
 unless_gives (Some var) d row h = cc
 
@@ -167,7 +167,7 @@ judged_gives : (xs : List Var) (f : Checked Form) (row : Row) → judged xs f �
 judged_gives xs (Err leaves) row h = cc
 judged_gives xs (Ok form) row h = let p = unless_gives (first_broken 0 xs form.coefficients) (sized xs (rounded form)) row h in (form, refl, p.0, p.1)
 
-size_of_test : (m n : ℕ) → nat_le m n ≡ true → m ≤ n
+pub size_of_test : (m n : ℕ) → nat_le m n ≡ true → m ≤ n
 size_of_test m n e = grind (arith, nat_tests)
 
 pub is_derived : (P : Problem) (earlier : List Row) (es : List CutEntry) (row : Row) → derivation P earlier es ≡ Gives row → IsDerived P earlier es row
