@@ -1,5 +1,5 @@
 -- What the parts of a derivation say of the whole.
-use Rattle.std.proofs.Common.{◌≡◌, ◌∙◌, ap, refl, sym, subst, ℕ, zero, suc, ◌+◌, ◌<◌, ◌≤◌, ◌^◌, Bool, true, false, ℤ, pos, List, [], ◌∷◌, ◌++◌, length, get_or, All, Option, Some, None, Ok, Err, arith, append_assoc, ◌↔◌, inl, inr}
+use Rattle.std.proofs.Common.{◌≡◌, ◌∙◌, ap, refl, sym, subst, ℕ, zero, suc, ◌+◌, ◌<◌, ◌≤◌, ◌^◌, Bool, true, false, ℤ, pos, List, [], ◌∷◌, ◌++◌, length, get_or, Option, Some, None, Ok, Err, arith, append_assoc, ◌↔◌, inl, inr}
 use Rattle.std.specs.Prelude.{◌⊎◌, IfOk, Result, is_some, if◌then◌else◌, ◌&&◌, nat_le}
 use Rattle.std.specs.Ordering.{int_eq}
 use Rattle.std.specs.List.{list_all}
@@ -23,10 +23,9 @@ use Rattle.qm_model.specs.Sizes.{reach_in_vars, row_size}
 use Rattle.qm_model.proofs.Forms.{coefficient-later, coefficient-other, coefficient-same}
 use Rattle.qm_trees.specs.declared.cut_combo.CutEntry.{CutEntry}
 use Rattle.qm_trees.specs.CutEntries.{AreCutEntries, row_on, rows_on}
-use Rattle.qm_trees.specs.CutRules.{AreCutsAfter, Derivation, Derived, IsCut, Form, Gives, Left, Missing, Wide, Broken, add_each, add_rows, derivation, first_broken, judged, may_stand, sized, terms_from, unless_broken}
+use Rattle.qm_trees.specs.CutRules.{AreCutsAfter, Derivation, Derived, IsCut, Gives, Left, Missing, Wide, add_each, derivation, first_broken, may_stand, sized, terms_from, unless_broken}
 use Rattle.qm_trees.specs.Entries.{Weighted}
 use Rattle.qm_trees.specs.Evaluation.{add_coefficients, add_right_sides, zero as nothing}
-use Rattle.qm_trees.proofs.Lines.{bind_parts, ok_is}
 use Rattle.qm_cuts.specs.declared.fault.CutFault.{CutFault}
 use Rattle.qm_cuts.specs.declared.fault.CutFault.TheVariants as fault
 use Rattle.qm_cuts.specs.declared.seen.Seen.{Seen}
@@ -259,22 +258,20 @@ module _ (P : Problem) (earlier : List Row) (es : List CutEntry) (there : list_a
     pub seen_all : (seen : Seen) → see_each ws 0 P.vars nothing_seen ≡ Ok seen
         → (IsOrdered seen.terms) × (derivation P earlier es ≡ unless_broken seen.broken (sized P.vars (record { terms = seen.terms; right = floor_of right })))
     seen_all seen e =
-        let p = ok_parts (add_each ws 0 P.vars) (λ cs. let s : Seen = record { broken = first_broken 0 P.vars cs; terms = terms_from 0 cs } in s) seen (sym (see_each_is ws 0 P.vars nothing_seen) ∙ e) in
-        (subst (λ (s : Seen). IsOrdered s.terms) p.2 (terms_ordered 0 p.0),
-          derivation_is p.0 p.1 ∙ ap (λ (s : Seen). unless_broken s.broken (sized P.vars (record { terms = s.terms; right = floor_of right }))) p.2)
+        let p = ok_parts (add_each ws 0 P.vars) (λ cs. let s : Seen = record { broken = first_broken 0 P.vars cs; terms = terms_from 0 cs } in s) seen (sym (see_each_is ws 0 P.vars nothing_seen) ∙ e) in (
+          subst (λ (s : Seen). IsOrdered s.terms) p.2 (terms_ordered 0 p.0),
+          derivation_is p.0 p.1 ∙ ap (λ (s : Seen). unless_broken s.broken (sized P.vars (record { terms = s.terms; right = floor_of right }))) p.2,
+        )
 
     pub fit_leaves_all : (ts : List Term) (leaves : Leaves) → fit_each ws ts 0 P.vars true ≡ Err leaves → derivation P earlier es ≡ Left leaves
     fit_leaves_all ts leaves e = coefficient_leaves leaves (err_parts (add_each ws 0 P.vars) (λ cs. fits_from ts 0 P.vars cs) leaves (sym (fit_each_is ws ts 0 P.vars true) ∙ e))
 
-    sight_answer_by : (e : CutFault) → IsSight (see_each ws 0 P.vars nothing_seen) (Err e) → IsAnswer (derivation P earlier es) (Err e)
-    sight_answer_by fault.Missing h = absurd h
-    sight_answer_by (fault.Leaves leaves) h = seen_leaves leaves h
-    sight_answer_by (fault.Broken var) h = absurd h
-    sight_answer_by fault.Wide h = absurd h
-    sight_answer_by fault.Memory h = tt
-
     pub sight_answer : (e : CutFault) → IsSight (see_each ws 0 P.vars nothing_seen) (Err e) → IsAnswer (derivation P earlier es) (Err e)
-    sight_answer e h = sight_answer_by e h
+    sight_answer fault.Missing h = absurd h
+    sight_answer (fault.Leaves leaves) h = seen_leaves leaves h
+    sight_answer (fault.Broken var) h = absurd h
+    sight_answer fault.Wide h = absurd h
+    sight_answer fault.Memory h = tt
 
     module _ (row : Row) (fit : Bool) (ordered : IsOrdered row.terms) (tested : fit_each ws row.terms 0 P.vars true ≡ Ok fit) where
       parts : (cs : List Fraction) × (add_each ws 0 P.vars ≡ Ok cs) × (fits_from row.terms 0 P.vars cs ≡ fit)
@@ -313,15 +310,12 @@ module _ (P : Problem) (earlier : List Row) (es : List CutEntry) (there : list_a
             size = subst (λ (r : Row). row_size (reach_in_vars P.vars) r ≤ 2 ^ 126) s.1 (size_of_test (row_size (reach_in_vars P.vars) made) (2 ^ 126) s.0);
           }
 
-      fit_verdict_by : (b : Bool) → (b ≡ true) ↔ IsFound fit P.vars right row → IsVerdict (derivation P earlier es) row (Ok b)
-      fit_verdict_by true iff = found_gives (iff.0 refl)
-      fit_verdict_by false iff = (
+      pub fit_verdict : (b : Bool) → (b ≡ true) ↔ IsFound fit P.vars right row → IsVerdict (derivation P earlier es) row (Ok b)
+      fit_verdict true iff = found_gives (iff.0 refl)
+      fit_verdict false iff = (
         λ gives. (let none = iff.1 (gives_found gives) in cc),
         λ leaves e. never_left (first_broken 0 P.vars parts.0) P.vars (record { terms = terms_from 0 parts.0; right = floor_of right }) leaves (sym (derivation_is parts.0 parts.1) ∙ e),
       )
-
-      pub fit_verdict : (b : Bool) → (b ≡ true) ↔ IsFound fit P.vars right row → IsVerdict (derivation P earlier es) row (Ok b)
-      fit_verdict b iff = fit_verdict_by b iff
 
 pub missing_verdict : (d : Derivation) (row : Row) → d ≡ Missing → IsVerdict d row (Ok false)
 missing_verdict d row e = (λ gives. cc, λ leaves left. cc)

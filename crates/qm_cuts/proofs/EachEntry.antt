@@ -19,7 +19,6 @@ use Rattle.qm_trees.specs.declared.cut_combo.CutEntry.{CutEntry}
 use Rattle.qm_trees.specs.declared.cut_combo.CutRow.{CutRow}
 use Rattle.qm_trees.specs.declared.cut_combo.CutRow.TheVariants as on
 use Rattle.qm_trees.specs.CutEntries.{high_row, low_row, row_on, rows_on}
-use Rattle.qm_trees.specs.CutRules.{AreThere}
 use Rattle.qm_trees.specs.Entries.{with_row}
 use Rattle.qm_trees.specs.Evaluation.{add_coefficients, add_right_sides}
 use Rattle.qm_cuts.specs.Steps.{AreUsable, IsUsable, add_multiple, add_product}

@@ -1,10 +1,10 @@
 -- What is seen of variables, one after the other.
-use Rattle.std.proofs.Common.{◌≡◌, ◌∙◌, ap, refl, sym, subst, ℕ, zero, suc, ◌+◌, ◌-◌, ◌<◌, ◌≤◌, Bool, true, false, ℤ, pos, List, [], ◌∷◌, ◌++◌, length, get_or, drop, All, Option, Some, None, Ok, Err, arith, add-one, append_assoc}
+use Rattle.std.proofs.Common.{◌≡◌, ◌∙◌, ap, refl, sym, ℕ, zero, suc, ◌+◌, ◌-◌, ◌<◌, ◌≤◌, Bool, true, false, pos, List, [], ◌∷◌, ◌++◌, length, get_or, drop, Option, Some, None, Ok, Err, arith, add-one}
 use Rattle.std.specs.Prelude.{IfSome, if◌then◌else◌, ◌&&◌, ◌==◌}
 use Rattle.std.specs.Ordering.{int_eq}
 use Rattle.std.proofs.lemmas.List.{at_drop_more, drop_all, append-nil}
 use Rattle.std.proofs.lemmas.List.Elements.{All-head, All-tail}
-use Rattle.qm_math.specs.Fraction.{Fraction, whole}
+use Rattle.qm_math.specs.Fraction.{Fraction}
 use Rattle.qm_frac.specs.declared.leaves.Leaves.{Leaves}
 use Rattle.qm_frac.specs.Checked.{Checked, and_then}
 use Rattle.qm_model.specs.declared.row.Row.{Row}
@@ -14,11 +14,11 @@ use Rattle.qm_model.specs.declared.game.Problem.{Problem}
 use Rattle.qm_model.specs.Linear.{coefficient}
 use Rattle.qm_trees.specs.declared.cut_combo.CutEntry.{CutEntry}
 use Rattle.qm_trees.specs.CutEntries.{row_on, rows_on}
-use Rattle.qm_trees.specs.CutRules.{add_each, first_broken, may_stand, terms_from}
+use Rattle.qm_trees.specs.CutRules.{may_stand}
 use Rattle.qm_trees.specs.Entries.{Weighted}
 use Rattle.qm_trees.specs.Evaluation.{add_coefficients, zero as nothing}
 use Rattle.qm_cuts.specs.declared.seen.Seen.{Seen}
-use Rattle.qm_cuts.specs.Steps.{HaveNo, broken_at, fit_each, fits_at, or_later, see_each, seen_with, term_of}
+use Rattle.qm_cuts.specs.Steps.{HaveNo, fit_each, fits_at, or_later, see_each, seen_with}
 use Rattle.qm_cuts.proofs.Deriving.{a_variable}
 
 -- ---- a variable that no row has

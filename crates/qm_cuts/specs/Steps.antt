@@ -1,5 +1,5 @@
 -- The steps of a derivation: what the entries stand on, and what is seen variable by variable.
-use Rattle.std.specs.Prelude.{◌≡◌, ◌≤◌, ◌^◌, true, length, ℕ, suc, ℤ, pos, Bool, ◌&&◌, if◌then◌else◌, List, [], ◌∷◌, ◌++◌, All, IfSome, IsSome, IsSomeAnd, slice_get, Option, Some, None, Result, Ok, Err}
+use Rattle.std.specs.Prelude.{◌≡◌, ◌≤◌, ◌^◌, true, length, ℕ, suc, ℤ, pos, Bool, ◌&&◌, if◌then◌else◌, List, [], ◌∷◌, ◌++◌, All, IfSome, IsSome, IsSomeAnd, slice_get, Option, Some, None, Ok}
 use Rattle.std.specs.Ordering.{int_eq}
 use Rattle.qm_math.specs.Fraction.{Fraction, whole}
 use Rattle.qm_math.specs.Rounding.{floor_of}

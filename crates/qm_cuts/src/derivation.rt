@@ -55,12 +55,7 @@ fn derived(
 /// The cut that these entries make, among the rows and the cuts of the pool; or the first reason why there is none:
 /// something named that isn't there, the first operation that leaves, the first variable whose coefficient may not
 /// stand, or a size above 2^126. `Memory`, where there is none for the row.
-pub fn derive(
-    alloc: Global,
-    game: &Game,
-    pool: &CutPool,
-    combo: &CutCombo,
-) -> Result<Row, CutFault>
+pub fn derive(alloc: Global, game: &Game, pool: &CutPool, combo: &CutCombo) -> Result<Row, CutFault>
     requires { AreCuts game.now pool.now }
     ensures answer { IsAnswer (derivation game.now (rows_of pool.now) combo.now) result }
     ensures cut { IfOk result (λ row. IsCut game.now (rows_of pool.now) combo.now row) }
@@ -69,12 +64,7 @@ pub fn derive(
 }
 
 /// Derives the cut and puts it last in the pool; the answer is its number. A fault leaves the pool as it was.
-pub fn add(
-    alloc: Global,
-    pool: &mut CutPool,
-    game: &Game,
-    combo: CutCombo,
-) -> Result<u32, CutFault>
+pub fn add(alloc: Global, pool: &mut CutPool, game: &Game, combo: CutCombo) -> Result<u32, CutFault>
     requires cuts { AreCuts game.now pool.old }
     requires few { length pool.old + 1 < 2 ^ 29 }
     ensures answer { Keeps (derivation game.now (rows_of pool.old) combo) combo pool.old pool.new result }

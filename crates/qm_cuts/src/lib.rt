@@ -1,11 +1,12 @@
 //! Rounded cuts, by Gomory and Chvátal: rows that each whole point keeps which meets the rows that they are combined
 //! from.
 //!
-//! `CutPool` keeps cuts in their order, each with what it is made of. `laws`: a whole point meets the cuts of what it
-//! meets, so that cuts in their order may stand beside the rows in combinations and relaxations, and a derivation gives
-//! a cut.
+//! `derive` makes a cut of multipliers on rows, uncertainty rows, earlier cuts and the variables' own bounds, or tells
+//! the first reason why there is none; `add` keeps it in a `CutPool` with what it is made of; `test_cut` tells, without
+//! memory, whether a row is the cut of such multipliers. `laws`: a whole point meets the cuts of what it meets, so that
+//! cuts in their order may stand beside the rows in combinations and relaxations, and a derivation gives a cut.
 //! Public clauses cite `IsCut`, `AreCuts` and `derivation` of qm_trees' `specs/CutRules`, its `HoldCuts`, and here
-//! `specs/Pools`. What cuts are made of is given on.
+//! `specs/Pools` and `Answers`. What cuts are made of is given on.
 #![tactic(auto)]
 
 mod derivation;

@@ -79,7 +79,12 @@ fn next_on(problem: &Problem, earlier: &[Row], on: CutRow, from: u32, limit: u32
 }
 
 /// The first variable from `from` on that a row has which an entry stands on; the number of variables where there is none.
-pub(crate) fn next_variable(problem: &Problem, earlier: &[Row], entries: &[CutEntry], from: u32) -> u32
+pub(crate) fn next_variable(
+    problem: &Problem,
+    earlier: &[Row],
+    entries: &[CutEntry],
+    from: u32,
+) -> u32
     requires usable { AreUsable problem.now earlier.now entries.now }
     requires few { length problem.now.vars < 2 ^ 29 }
     requires room { from ≤ length problem.now.vars }

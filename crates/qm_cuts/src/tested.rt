@@ -96,12 +96,7 @@ fn is_found(fit: bool, vars: &[Var], right: Frac, row: &Row) -> bool
 
 /// Whether these entries, among the rows and the earlier cuts, make this very cut. Leaves exactly where the first
 /// operation of the evaluation leaves.
-pub fn test_cut(
-    game: &Game,
-    earlier: &[Row],
-    combo: &CutCombo,
-    row: &Row,
-) -> Result<bool, Leaves>
+pub fn test_cut(game: &Game, earlier: &[Row], combo: &CutCombo, row: &Row) -> Result<bool, Leaves>
     requires { All (IsRowOver game.now.vars) earlier.now }
     ensures { IsVerdict (derivation game.now earlier.now combo.now) row.now result }
 {
