@@ -1,6 +1,7 @@
 -- What is told of a source's bytes.
 use Rattle.std.specs.Prelude.{◌≡◌, ℕ, ◌+◌, ◌≤◌, List, Option, Result, Ok, Err, length}
 use Rattle.std.specs.Io.KnownBytes.{Consumes, IsAtEnd}
+use Rattle.qm_io.specs.Bytes.{TookSome}
 use Rattle.qm_model.specs.declared.game.Problem.{Problem}
 use Rattle.qm_trees.specs.Verdicts as line
 use Rattle.qm_trees.specs.Verdicts.{◌then◌}
@@ -24,13 +25,14 @@ IsVerdict P text (Refused n rule) = numbered_fault P text ≡ line.Broken rule n
 abbrev pub OfWhole : Option (List ℕ) → Option (List ℕ) → ℕ → (List ℕ → Type 0) → Type 0
 OfWhole old new most Is = (text : List ℕ) × Consumes old new text × IsAtEnd new × (length text ≤ most) × Is text
 
--- what is told of the bytes to the end, at most so many; or one more came, or the source failed, or memory ran out
+-- what is told of the bytes to the end, at most so many; or one more came; or the source failed, or memory ran out, and some
+-- came, at most so many
 abbrev pub IsChecked : Problem → Option (List ℕ) → Option (List ℕ) → ℕ → Result Verdict CheckFault → Type 0
 IsChecked P old new most (Ok verdict) = OfWhole old new most (λ text. IsVerdict P text verdict)
 IsChecked P old new most (Err (fault.Leaves n leaves)) = OfWhole old new most (λ text. numbered_fault P text ≡ line.Left leaves n)
 IsChecked P old new most (Err fault.Limit) = (bytes : List ℕ) × Consumes old new bytes × (length bytes ≡ most + 1)
-IsChecked P old new most (Err fault.Read) = Unit {0}
-IsChecked P old new most (Err fault.Memory) = Unit {0}
+IsChecked P old new most (Err fault.Read) = TookSome old new most
+IsChecked P old new most (Err fault.Memory) = TookSome old new most
 
 -- what is told of a text
 abbrev pub IsToldOf : Problem → List ℕ → Result Verdict CheckFault → Type 0

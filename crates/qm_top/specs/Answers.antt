@@ -1,16 +1,21 @@
 -- What may be answered: which status and text go with which words and input.
 use Rattle.std.specs.Prelude.{◌≡◌, ℕ, ◌<◌, ◌≤◌, ℤ, List, length, codes}
 use Rattle.std.specs.declared.option.Option.{Option}
-use Rattle.std.specs.Io.KnownBytes.{Appends, Consumes, IsAtEnd}
+use Rattle.std.specs.Io.KnownBytes.{Appends}
 use Rattle.qm_io.specs.Causes.{Rose}
-use Rattle.qm_io.specs.Bytes.{AppendsFront, TookSome}
+use Rattle.qm_io.specs.Bytes.{AppendsFront}
+use Rattle.qm_frac.specs.declared.leaves.Leaves.{Leaves}
 use Rattle.qm_model.specs.declared.game.Problem.{Problem}
 use Rattle.qm_model.specs.Endings.{HasEnding}
 use Rattle.qm_model.specs.Plays.{IsPlay}
 use Rattle.qm_normal.specs.Stated.{States}
+use Rattle.qm_trees.specs.declared.rule.Rule.{Rule}
+use Rattle.qm_trees.specs.Verdicts.{Broken, Left}
 use Rattle.qm_certfile.specs.declared.certificate.Certificate.{Certificate}
 use Rattle.qm_certfile.specs.CertificateLines.{certificate_text}
 use Rattle.qm_certfile.specs.Passes.{AnswersPlay, Passes, ending_of}
+use Rattle.qm_check.specs.Checking.{numbered_fault}
+use Rattle.qm_check.specs.Texts.{IsFine}
 use Rattle.qm_gen.specs.Generated.{generated_problem, generated_text}
 use Rattle.qm_search.specs.declared.fault.Leave.{Leave}
 use Rattle.qm_search.specs.Entering.{IsEnterable, MayHold}
@@ -19,48 +24,16 @@ use Rattle.qm_journal.specs.Enough.{enough}
 use Rattle.qm_journal.specs.Lawful.{IsLawfulWith, SpendsBudget}
 use Rattle.qm_simplex.specs.RightLeaves.{IsRightLeave}
 use Rattle.qm_top.specs.declared.command.Command.{Command}
-use Rattle.qm_top.specs.declared.command.Command.TheVariants.{Gen, GenSolve, Solve}
+use Rattle.qm_top.specs.declared.command.Command.TheVariants.{Check, Gen, GenSolve, Solve}
 use Rattle.qm_top.specs.Words.{Asks}
+use Rattle.qm_top.specs.CheckLines.{accepted_line, leaves_line, refused_line}
+use Rattle.qm_top.specs.EndingLines.{ending_line}
 use Rattle.qm_top.specs.LeaveLines.{leave_text}
 use Rattle.qm_top.specs.Lines.{line, usage}
+use Rattle.qm_top.specs.Readings.{AreUnread, IsUnread, Reading, Readings, ReadsProblemAlone, Tells}
 use Rattle.qm_top.specs.Refusals.{Refuses}
 use Rattle.qm_top.specs.SpentLines.{spent_text}
 use Rattle.qm_top.specs.SummaryLines.{summary_text}
-
--- what became of a source: the bytes that it had left and has left, where it tells them, and its faults
-pub record Reading : Type 0 where
-  pub before : Option (List ℕ)
-  pub after : Option (List ℕ)
-  pub faults_before : ℕ
-  pub faults_after : ℕ
-
-abbrev pub reading : Option (List ℕ) → Option (List ℕ) → ℕ → ℕ → Reading
-reading before after faults_before faults_after = record { before = before; after = after; faults_before = faults_before; faults_after = faults_after }
-
--- nothing was read
-pub record IsUnread (read : Reading) : Type 0 where
-  pub bytes : read.after ≡ read.before
-  pub faults : read.faults_after ≡ read.faults_before
-
--- what became of the three sources
-pub record Readings : Type 0 where
-  pub problem : Reading
-  pub certificate : Reading
-  pub moves : Reading
-
-abbrev pub readings : Reading → Reading → Reading → Readings
-readings problem certificate moves = record { problem = problem; certificate = certificate; moves = moves }
-
--- the problem alone may have been read
-pub record ReadsProblemAlone (read : Readings) : Type 0 where
-  pub certificate : IsUnread read.certificate
-  pub moves : IsUnread read.moves
-
--- none of them was read
-pub record AreUnread (read : Readings) : Type 0 where
-  pub problem : IsUnread read.problem
-  pub certificate : IsUnread read.certificate
-  pub moves : IsUnread read.moves
 
 -- The text is that of a certificate that passes, and what it claims is how the problem ends. Where it claims a value,
 -- its policy meets every row and reaches the value on every universal play.
@@ -79,23 +52,42 @@ pub data SolvesProblem (P : Problem) (nodes status : ℕ) (text : List ℕ) : Ty
   left : (leave : Leave) → IsRightLeave P (IsEnterable P) leave.prefix leave.run → status ≡ 7 → text ≡ leave_text leave → SolvesProblem P nodes status text
   spent : (entries : List JEntry) → SpendsBudget P (MayHold P) nodes entries → status ≡ 8 → text ≡ spent_text entries → SolvesProblem P nodes status text
 
--- what `solve` answers about the whole bytes of a problem
-pub data SolvesText (bytes : List ℕ) (nodes status : ℕ) (text : List ℕ) : Type 0 where
-  stated : (P : Problem) → States bytes P → SolvesProblem P nodes status text → SolvesText bytes nodes status text
+-- What is told of the bytes of a problem, where a command tells this of each problem: what it tells of the one that they
+-- state, or why they state none. `Behind` is what then became of the sources that are read behind them.
+pub data TellsText (Behind : Type 0) (OfProblem : Problem → ℕ → List ℕ → Type 0) (bytes : List ℕ) (status : ℕ) (text : List ℕ) : Type 0 where
+  stated : (P : Problem) → States bytes P → OfProblem P status text → TellsText Behind OfProblem bytes status text
   -- they state no problem
-  refused : Refuses bytes status text → SolvesText bytes nodes status text
-  out_of_memory : status ≡ 10 → text ≡ line (codes "memory") → SolvesText bytes nodes status text
+  refused : Refuses bytes status text → Behind → TellsText Behind OfProblem bytes status text
+  out_of_memory : Behind → status ≡ 10 → text ≡ line (codes "memory") → TellsText Behind OfProblem bytes status text
 
--- what `solve` answers, by what was read of the problem: at most 4,194,305 bytes
-pub data Solves (read : Reading) (nodes status : ℕ) (text : List ℕ) : Type 0 where
-  -- the problem was read to its end
-  whole_text : (bytes : List ℕ) → Consumes read.before read.after bytes → IsAtEnd read.after → length bytes ≤ 4194304 → SolvesText bytes nodes status text → Solves read nodes status text
-  -- the problem is longer than the limit
-  longer : (bytes : List ℕ) → Consumes read.before read.after bytes → length bytes ≡ 4194305 → status ≡ 6 → text ≡ line (codes "limit problem") → Solves read nodes status text
-  -- the source failed
-  failed : TookSome read.before read.after 4194305 → Rose read.faults_before read.faults_after → status ≡ 3 → text ≡ line (codes "read problem") → Solves read nodes status text
-  -- there was no memory for the bytes
-  no_room : TookSome read.before read.after 4194305 → status ≡ 10 → text ≡ line (codes "memory") → Solves read nodes status text
+-- the same by what was read of the problem: at most 4,194,305 bytes
+abbrev pub TellsProblem : Type 0 → (Problem → ℕ → List ℕ → Type 0) → Reading → ℕ → List ℕ → Type 0
+TellsProblem Behind OfProblem read status text = Tells (codes "problem") 4194304 Behind (TellsText Behind OfProblem) read status text
+
+-- what `solve` answers about the whole bytes of a problem; it reads no other source
+abbrev pub SolvesText : List ℕ → ℕ → ℕ → List ℕ → Type 0
+SolvesText bytes nodes status text = TellsText (Unit {0}) (λ P. SolvesProblem P nodes) bytes status text
+
+-- what `solve` answers, by what was read of the problem
+abbrev pub Solves : Reading → ℕ → ℕ → List ℕ → Type 0
+Solves read nodes status text = TellsProblem (Unit {0}) (λ P. SolvesProblem P nodes) read status text
+
+-- What `check` answers about the whole bytes of a certificate of a problem: they are accepted where no line of theirs is at
+-- fault, with the claim of the certificate whose text they are; else the first line at fault is told.
+pub data ChecksText (P : Problem) (bytes : List ℕ) (status : ℕ) (text : List ℕ) : Type 0 where
+  accepted : IsFine (numbered_fault P bytes) → (claims : Claims P bytes) → status ≡ 0 → text ≡ accepted_line (ending_line P.sense (ending_of claims.certificate)) → ChecksText P bytes status text
+  broken : (number : ℕ) (rule : Rule) → numbered_fault P bytes ≡ Broken rule number → status ≡ 9 → text ≡ refused_line number rule → ChecksText P bytes status text
+  leaving : (number : ℕ) (leaves : Leaves) → numbered_fault P bytes ≡ Left leaves number → status ≡ 7 → text ≡ leaves_line number leaves → ChecksText P bytes status text
+  no_room_for_verdict : status ≡ 10 → text ≡ line (codes "memory") → ChecksText P bytes status text
+
+-- what `check` answers about a problem, by what was read of the certificate: at most 268,435,457 bytes
+abbrev pub ChecksProblem : Reading → Problem → ℕ → List ℕ → Type 0
+ChecksProblem certificate P status text = Tells (codes "certificate") 268435456 (Unit {0}) (ChecksText P) certificate status text
+
+-- What `check` answers, by what was read of the problem and of the certificate, of which nothing is read where there is no
+-- problem.
+abbrev pub Checks : Reading → Reading → ℕ → List ℕ → Type 0
+Checks problem certificate status text = TellsProblem (IsUnread certificate) (ChecksProblem certificate) problem status text
 
 -- what `gen` answers: the text of this number and this size
 pub data Makes (number size status : ℕ) (text : List ℕ) : Type 0 where
@@ -126,6 +118,7 @@ pub data SolvesMade (P : Problem) (status : ℕ) (text : List ℕ) : Type 0 wher
 pub data IsAnswer (words : List (List ℕ)) (read : Readings) (status : ℕ) (text : List ℕ) : Type 0 where
   misused : ((command : Command) → ¬ Asks command words) → AreUnread read → status ≡ 2 → text ≡ usage → IsAnswer words read status text
   solved : (nodes : ℕ) → Asks (Solve nodes) words → ReadsProblemAlone read → Solves read.problem nodes status text → IsAnswer words read status text
+  checked : Asks Check words → IsUnread read.moves → Checks read.problem read.certificate status text → IsAnswer words read status text
   generated : (number size : ℕ) → Asks (Gen number size) words → AreUnread read → Makes number size status text → IsAnswer words read status text
   made_and_solved : (number size : ℕ) → Asks (GenSolve number size) words → AreUnread read → SolvesMade (generated_problem number size) status text → IsAnswer words read status text
 

@@ -7,6 +7,10 @@ pub mod Report
 pub mod Stating
 pub mod LeaveLines
 pub mod SpentLines
+pub mod EndingLines
 pub mod SummaryLines
+pub mod CheckLines
+pub mod Readings
+pub mod CheckSteps
 pub mod Answers
 pub mod Completeness

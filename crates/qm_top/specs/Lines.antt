@@ -7,4 +7,4 @@ line text = text ++ 10 ∷ []
 
 -- the forms of the words
 abbrev pub usage : List ℕ
-usage = line (codes "usage: qyas solve FILE [--nodes N] | gen NUMBER SIZE [--solve]")
+usage = line (codes "usage: qyas solve FILE [--nodes N] | check FILE CERT | gen NUMBER SIZE [--solve]")

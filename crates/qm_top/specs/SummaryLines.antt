@@ -2,21 +2,13 @@
 -- how many bytes the certificate's text has.
 use Rattle.std.specs.Prelude.{ℕ, List, [], ◌∷◌, codes, length}
 use Rattle.std.specs.Fmt.{decimal}
-use Rattle.qm_text.specs.Numbers.{number_word}
-use Rattle.qm_model.specs.declared.game.Sense.{Sense}
 use Rattle.qm_model.specs.declared.game.Problem.{Problem}
-use Rattle.qm_model.specs.Endings.{Ending, Empty, Infeasible, Optimal}
 use Rattle.qm_journal.specs.declared.entry.JEntry.{JEntry}
 use Rattle.qm_certfile.specs.declared.certificate.Certificate.{Certificate}
 use Rattle.qm_certfile.specs.Lines.{Line, text_of}
-use Rattle.qm_certfile.specs.CertificateLines.{alone, certificate_text, claimed}
+use Rattle.qm_certfile.specs.CertificateLines.{certificate_text}
 use Rattle.qm_certfile.specs.Passes.{ending_of}
-
--- the line of an ending, as a certificate begins with it
-abbrev pub ending_line : Sense → Ending → Line
-ending_line sense Empty = alone (codes "empty")
-ending_line sense Infeasible = alone (codes "infeasible")
-ending_line sense (Optimal value) = codes "optimal" ∷ number_word (claimed sense value) ∷ []
+use Rattle.qm_top.specs.EndingLines.{ending_line}
 
 abbrev pub summary_lines : Problem → Certificate → List JEntry → List Line
 summary_lines P certificate entries =

@@ -2,7 +2,7 @@
 use Rattle.std.specs.Prelude.{◌≡◌, ◌≢◌, ◌⊎◌, ◌≤◌, ℕ, List, [], ◌∷◌, codes}
 use Rattle.std.specs.Fmt.{decimal}
 use Rattle.qm_top.specs.declared.command.Command.{Command}
-use Rattle.qm_top.specs.declared.command.Command.TheVariants.{Gen, GenSolve, Solve}
+use Rattle.qm_top.specs.declared.command.Command.TheVariants.{Check, Gen, GenSolve, Solve}
 
 -- a budget that may be asked for
 abbrev pub IsBudget : ℕ → Type 0
@@ -16,8 +16,10 @@ AsksNodes nodes words = ((words ≡ []) × (nodes ≡ 1000000)) ⊎ ((words ≡ 
 abbrev pub AsksGen : ℕ → ℕ → List (List ℕ) → List (List ℕ) → Type 0
 AsksGen number size behind words = (number ≤ 2147483647) × (1 ≤ size) × (size ≤ 100) × (words ≡ codes "gen" ∷ decimal number ∷ decimal size ∷ behind)
 
--- `solve FILE` or `solve FILE --nodes N`, where FILE isn't empty; `gen NUMBER SIZE`; `gen NUMBER SIZE --solve`
+-- `solve FILE` or `solve FILE --nodes N`, where FILE isn't empty; `check FILE CERT`, where neither is; `gen NUMBER SIZE`;
+-- `gen NUMBER SIZE --solve`
 abbrev pub Asks : Command → List (List ℕ) → Type 0
 Asks (Solve nodes) words = (file : List ℕ) × (behind : List (List ℕ)) × (file ≢ []) × (words ≡ codes "solve" ∷ file ∷ behind) × AsksNodes nodes behind
+Asks Check words = (file : List ℕ) × (certificate : List ℕ) × (file ≢ []) × (certificate ≢ []) × (words ≡ codes "check" ∷ file ∷ certificate ∷ [])
 Asks (Gen number size) words = AsksGen number size [] words
 Asks (GenSolve number size) words = AsksGen number size (codes "--solve" ∷ []) words

@@ -22,6 +22,8 @@ const LARGEST: u32 = 100;
 pub enum Command {
     /// The ending of the problem in a file, by a search of at most so many entries: `solve FILE [--nodes N]`.
     Solve { nodes: u64 },
+    /// Whether a certificate in a file shows what it claims about the problem in a file: `check FILE CERT`.
+    Check,
     /// The problem of a number and a size: `gen NUMBER SIZE`.
     Gen { number: u32, size: u32 },
     /// How that problem ends, in three lines: `gen NUMBER SIZE --solve`.
@@ -89,6 +91,23 @@ fn solve_of(words: &[String]) -> Option<Command>
     }
 }
 
+/// The command of the words behind `check`.
+fn check_of(words: &[String]) -> Option<Command>
+    ensures some { IfSome result (λ command. Asks command (codes "check" ∷ map string_bytes words.now)) }
+    ensures none { IfNone result ((command : Command) → ¬ Asks command (codes "check" ∷ map string_bytes words.now)) }
+{
+    match words {
+        [file, certificate] => {
+            if file.as_str().is_empty() || certificate.as_str().is_empty() {
+                None
+            } else {
+                Some(Command::Check)
+            }
+        }
+        _ => None,
+    }
+}
+
 /// The command of the words behind `gen`.
 fn gen_of(words: &[String]) -> Option<Command>
     ensures some { IfSome result (λ command. Asks command (codes "gen" ∷ map string_bytes words.now)) }
@@ -122,6 +141,8 @@ pub fn command_of(words: &[String]) -> Option<Command>
         [command, behind @ ..] => {
             if command.as_str() == "solve" {
                 solve_of(behind)
+            } else if command.as_str() == "check" {
+                check_of(behind)
             } else if command.as_str() == "gen" {
                 gen_of(behind)
             } else {

@@ -100,7 +100,7 @@ fn op_word(op: Op) -> &'static [u8]
 }
 
 /// Appends the operation and its operands, each word behind a space.
-fn write_operation(leaves: Leaves, out: &mut List<u8>) -> Result<(), Memory>
+pub fn write_operation(leaves: Leaves, out: &mut List<u8>) -> Result<(), Memory>
     ensures { OnOk result (out.new ≡ out.old ++ spaced (operation_words leaves)) }
 {
     out.push(b' ')?;

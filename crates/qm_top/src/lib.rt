@@ -11,6 +11,9 @@
 //! (`specs/Stating.antt`). Text, tokens and syntax tree are gone when the search begins.
 #![tactic(auto)]
 
+mod check;
+mod check_lines;
+mod claim_lines;
 mod command;
 mod fault_lines;
 mod laws;

@@ -1,5 +1,6 @@
 ghost use Rattle.std.specs.Prelude.{◌≡◌, ◌≤◌, IfOk, length};
-ghost use Rattle.qm_top.specs.Answers.{Solves, SolvesProblem, SolvesText, reading};
+ghost use Rattle.qm_top.specs.Answers.{Solves, SolvesProblem, SolvesText};
+ghost use Rattle.qm_top.specs.Readings.{reading};
 ghost use Rattle.qm_top.specs.Report.{status_of, text_of};
 ghost use Rattle.qm_top.specs.Words.{IsBudget};
 
@@ -13,7 +14,7 @@ use qm_search::SearchFault;
 use std::alloc::Global;
 
 /// The most bytes that a problem has.
-const MOST: usize = 4_194_304;
+pub const MOST: usize = 4_194_304;
 
 /// What is answered about a game, by a search of at most so many entries.
 fn solve_game(alloc: Global, game: &Game, nodes: u64) -> Result<Report, Memory>

@@ -2,28 +2,29 @@ ghost use Rattle.std.specs.Prelude.{◌≡◌, ◌++◌, ◌∷◌, [], length, 
 ghost use Rattle.std.specs.Fmt.{decimal};
 ghost use Rattle.qm_certfile.specs.Lines.{line_text};
 ghost use Rattle.qm_certfile.specs.Passes.{ending_of};
-ghost use Rattle.qm_top.specs.SummaryLines.{ending_line, summary_text};
+ghost use Rattle.qm_certread.specs.Fits.{line_of};
+ghost use Rattle.qm_certread.specs.SaidSteps.{claim_node};
+ghost use Rattle.qm_top.specs.EndingLines.{ending_line};
+ghost use Rattle.qm_top.specs.SummaryLines.{summary_text};
 
+use crate::claim_lines::write_claim;
 use qm_certfile::{Certificate, claimed, write};
+use qm_certread::Claim;
 use qm_game::Game;
 use qm_io::{List, Memory};
 use qm_model::Sense;
 use qm_search::Solved;
-use qm_text::{write_count, write_frac};
+use qm_text::write_count;
 use std::alloc::Global;
 
-/// Appends the line of the ending that a certificate claims.
-fn write_ending(sense: Sense, certificate: &Certificate, out: &mut List<u8>) -> Result<(), Memory>
-    ensures { OnOk result (out.new ≡ out.old ++ line_text (ending_line sense (ending_of certificate.now))) }
+/// What a certificate claims, in the sense of the file.
+fn claim_of(sense: Sense, certificate: &Certificate) -> Claim
+    ensures { line_of (claim_node result) ≡ ending_line sense (ending_of certificate.now) }
 {
     match certificate {
-        Certificate::Optimal { value, .. } => {
-            out.append(b"optimal ")?;
-            write_frac(claimed(sense, *value), out)?;
-            out.push(b'\n')
-        }
-        Certificate::Infeasible { .. } => out.append(b"infeasible\n"),
-        Certificate::Empty(_) => out.append(b"empty\n"),
+        Certificate::Optimal { value, .. } => Claim::Optimal(claimed(sense, *value)),
+        Certificate::Infeasible { .. } => Claim::Infeasible,
+        Certificate::Empty(_) => Claim::NoPlay,
     }
 }
 
@@ -43,7 +44,7 @@ pub fn summary_text(alloc: Global, game: &Game, solved: &Solved) -> Result<List<
 {
     let certificate = write(alloc, game, &solved.certificate)?;
     let mut text = List::new(alloc);
-    write_ending(game.problem().sense, &solved.certificate, &mut text)?;
+    write_claim(claim_of(game.problem().sense, &solved.certificate), &mut text)?;
     write_counted(b"nodes", solved.journal.entries().len(), &mut text)?;
     write_counted(b"certificate", certificate.len(), &mut text)?;
     Ok(text)

@@ -1,12 +1,14 @@
 ghost use Rattle.std.specs.Prelude.{◌≡◌, ◌≢◌, ◌≤◌, ℕ, List, map, string_bytes};
 ghost use Rattle.std.specs.Io.KnownBytes.{Appends};
 ghost use Rattle.qm_io.specs.Causes.{Rose};
-ghost use Rattle.qm_top.specs.declared.command.Command.TheVariants.{Solve};
-ghost use Rattle.qm_top.specs.Answers.{Failed, IsAnswer, IsUnread, Reading, Took, reading, readings};
+ghost use Rattle.qm_top.specs.declared.command.Command.TheVariants.{Check, Solve};
+ghost use Rattle.qm_top.specs.Answers.{Failed, IsAnswer, Took};
 ghost use Rattle.qm_top.specs.Completeness.{IsDueTo};
+ghost use Rattle.qm_top.specs.Readings.{IsUnread, Reading, reading, readings};
 ghost use Rattle.qm_top.specs.Report.{status_of, text_of};
 ghost use Rattle.qm_top.specs.Words.{Asks};
 
+use crate::check::check;
 use crate::command::{Command, command_of};
 use crate::made::{make, make_and_solve};
 use crate::report::Report;
@@ -18,24 +20,33 @@ use std::alloc::Global;
 /// The status where the sink failed.
 const WRITE: u8 = 4;
 
-/// What is answered to the words, with the problem's source at hand.
-fn answer<P: Source>(alloc: Global, words: &[String], problem: &mut P) -> Report
-    ensures unread { ((nodes : ℕ) → ¬ Asks (Solve nodes) (map string_bytes words.now)) → problem.new ≡ problem.old }
-    ensures later { P.faults problem.old ≤ P.faults problem.new }
+/// What is answered to the words, with the sources of the problem and the certificate at hand.
+fn answer<P: Source, C: Source>(
+    alloc: Global,
+    words: &[String],
+    problem: &mut P,
+    certificate: &mut C,
+) -> Report
+    ensures problem { ((nodes : ℕ) → ¬ Asks (Solve nodes) (map string_bytes words.now)) → ¬ Asks Check (map string_bytes words.now) → problem.new ≡ problem.old }
+    ensures certificate { ¬ Asks Check (map string_bytes words.now) → certificate.new ≡ certificate.old }
+    ensures problem_later { P.faults problem.old ≤ P.faults problem.new }
+    ensures certificate_later { C.faults certificate.old ≤ C.faults certificate.new }
     // whatever else there is to read
-    ensures answer { (certificate moves : Reading) → IsUnread certificate → IsUnread moves → IsAnswer (map string_bytes words.now)
-        (readings (reading (P.rest problem.old) (P.rest problem.new) (P.faults problem.old) (P.faults problem.new)) certificate moves) (status_of result) (text_of result) }
+    ensures answer { (moves : Reading) → IsUnread moves → IsAnswer (map string_bytes words.now)
+        (readings (reading (P.rest problem.old) (P.rest problem.new) (P.faults problem.old) (P.faults problem.new))
+        (reading (C.rest certificate.old) (C.rest certificate.new) (C.faults certificate.old) (C.faults certificate.new)) moves) (status_of result) (text_of result) }
 {
     match command_of(words) {
         None => Report::Usage,
         Some(Command::Solve { nodes }) => solve(alloc, problem, nodes),
+        Some(Command::Check) => check(alloc, problem, certificate),
         Some(Command::Gen { number, size }) => make(alloc, number, size),
         Some(Command::GenSolve { number, size }) => make_and_solve(alloc, number, size),
     }
 }
 
 /// Does what the words ask for: reads what the command needs of the sources, and writes its report to `out`.
-/// The answer is the exit status. `certificate` and `moves` are for commands to come.
+/// The answer is the exit status. `moves` is for a command to come.
 pub fn run<P: Source, C: Source, M: Source, O: Sink>(
     alloc: Global,
     words: &[String],
@@ -56,21 +67,22 @@ pub fn run<P: Source, C: Source, M: Source, O: Sink>(
         (reading (M.rest moves.old) (M.rest moves.new) (M.faults moves.old) (M.faults moves.new))) }
     // Which of these comes is decided by the words and the bytes, but for want of memory.
     ensures complete { ¬ Rose (O.faults out.old) (O.faults out.new) → (text : List ℕ) × Appends (O.taken out.old) (O.taken out.new) text
-        × IsDueTo (map string_bytes words.now) (reading (P.rest problem.old) (P.rest problem.new) (P.faults problem.old) (P.faults problem.new)) result text }
+        × IsDueTo (map string_bytes words.now) (reading (P.rest problem.old) (P.rest problem.new) (P.faults problem.old) (P.faults problem.new))
+        (reading (C.rest certificate.old) (C.rest certificate.new) (C.faults certificate.old) (C.faults certificate.new)) result text }
 
     // No count of faults falls.
     ensures read_faults { P.faults problem.old ≤ P.faults problem.new }
+    ensures certificate_faults { C.faults certificate.old ≤ C.faults certificate.new }
     ensures write_faults { O.faults out.old ≤ O.faults out.new }
 
     // What the command doesn't use stays as it was.
-    ensures problem { ((nodes : ℕ) → ¬ Asks (Solve nodes) (map string_bytes words.now)) → problem.new ≡ problem.old }
-    ensures certificate { certificate.new ≡ certificate.old }
+    ensures problem { ((nodes : ℕ) → ¬ Asks (Solve nodes) (map string_bytes words.now)) → ¬ Asks Check (map string_bytes words.now) → problem.new ≡ problem.old }
+    ensures certificate { ¬ Asks Check (map string_bytes words.now) → certificate.new ≡ certificate.old }
     ensures moves { moves.new ≡ moves.old }
 {
     one_decimal_a_word();
-    let _ = &*certificate;
     let _ = &*moves;
-    let report = answer(alloc, words, problem);
+    let report = answer(alloc, words, problem, certificate);
     match report.write(out) {
         Ok(()) => report.status(),
         Err(_) => WRITE,

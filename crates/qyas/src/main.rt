@@ -1,7 +1,8 @@
-//! The program: `qyas solve FILE [--nodes N]` and `qyas gen NUMBER SIZE [--solve]`.
+//! The program: `qyas solve FILE [--nodes N]`, `qyas check FILE CERT` and `qyas gen NUMBER SIZE [--solve]`.
 //! Its words, the files that they name and the system's streams go to `run` of `qm_top`, which does all the rest, and whose
-//! answer is the exit status. A file is opened only when `run` reads it, so wrong words open none, and `gen` neither. Where
-//! the system gives no words or no memory for them, the program says so by a status of its own.
+//! answer is the exit status. A file is opened only when `run` reads it: wrong words open none, nor does `gen`, and CERT is
+//! opened where FILE states a problem. Where the system gives no words or no memory for them, the program says so by a
+//! status of its own.
 #![tactic(auto)]
 
 ghost use Rattle.std.specs.Prelude.{◌≡◌, [], IfOk, slice_get, string_bytes};
