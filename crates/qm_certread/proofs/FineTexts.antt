@@ -181,7 +181,7 @@ read_fits {E} P text r sound h =
 
 -- ---- the text of a certificate that fits
 
-fit_is_said : (P : Problem) (text : List ℕ) (c : Certificate) → length (whole_vars P) < 2 ^ 32 → Fits P c → certificate_text P c ≡ text → AreSaid first_style P (Claimed ∷ []) (nodes_of first_style P c) (lines_of text)
+pub fit_is_said : (P : Problem) (text : List ℕ) (c : Certificate) → length (whole_vars P) < 2 ^ 32 → Fits P c → certificate_text P c ≡ text → AreSaid first_style P (Claimed ∷ []) (nodes_of first_style P c) (lines_of text)
 fit_is_said P text c few fits is =
     subst (λ t. AreSaid first_style P (Claimed ∷ []) (nodes_of first_style P c) (lines_of t)) (sym (text_same P c) ∙ is) (fit_said P few (nodes_of first_style P c) fits)
 

@@ -4,7 +4,7 @@ mod Cuts
 mod Decoded
 mod EmptyRead
 mod EntryForms
-mod FineTexts
+pub mod FineTexts
 mod FittingEmpties
 mod FittingPolicies
 mod FittingRefutations

@@ -3,7 +3,7 @@ use Rattle.std.proofs.Common.{◌≡◌, ◌≤◌, ℕ, List, [], ◌∷◌, �
 use Rattle.std.specs.Prelude.{codes}
 use Rattle.std.specs.Fmt.{decimal}
 use Rattle.qm_top.specs.declared.command.Command.{Command}
-use Rattle.qm_top.specs.declared.command.Command.TheVariants.{Gen, GenSolve, Solve}
+use Rattle.qm_top.specs.declared.command.Command.TheVariants.{Check, Gen, GenSolve, Solve}
 use Rattle.qm_top.specs.Words.{Asks, AsksNodes}
 
 -- the words ask for nothing
@@ -22,5 +22,6 @@ no_budget_asked file behind none (Solve nodes) asks =
     let also = asks.3 in
     let same : asks.1 ≡ behind = cc in
     none nodes (subst (AsksNodes nodes) same asks.4)
+no_budget_asked file behind none Check asks = let also = asks.4 in cc
 no_budget_asked file behind none (Gen number size) asks = let also = asks.3 in cc
 no_budget_asked file behind none (GenSolve number size) asks = let also = asks.3 in cc

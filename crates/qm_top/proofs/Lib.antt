@@ -5,4 +5,6 @@ pub mod OneCommand
 pub mod Underway
 pub mod OneCertificate
 pub mod Refusals
+pub mod Telling
+pub mod Checked
 pub mod Answering

@@ -1,10 +1,10 @@
 -- Words ask for one command.
-use Rattle.std.proofs.Common.{◌≡◌, ℕ, List, [], ◌∷◌, inl, inr, sym, ap, subst, ◌∙◌, arith}
+use Rattle.std.proofs.Common.{◌≡◌, ℕ, List, [], ◌∷◌, inl, inr, refl, sym, ap, subst, ◌∙◌, arith}
 use Rattle.std.specs.Prelude.{codes}
 use Rattle.std.specs.Fmt.{decimal}
 use Rattle.std.proofs.lemmas.Fmt.{decimal_injective}
 use Rattle.qm_top.specs.declared.command.Command.{Command}
-use Rattle.qm_top.specs.declared.command.Command.TheVariants.{Gen, GenSolve, Solve}
+use Rattle.qm_top.specs.declared.command.Command.TheVariants.{Check, Gen, GenSolve, Solve}
 use Rattle.qm_top.specs.Words.{Asks, AsksGen, AsksNodes}
 
 nodes_once : (words : List (List ℕ)) (nodes others : ℕ) → AsksNodes nodes words → AsksNodes others words → nodes ≡ others
@@ -38,6 +38,21 @@ solve_or_gen words nodes number size behind asks also =
     let same : codes "solve" ≡ codes "gen" = cc in
     cc
 
+-- nor are those of `check` those of either
+check_or_solve : (words : List (List ℕ)) (nodes : ℕ) → Asks Check words → Asks (Solve nodes) words → ⊥
+check_or_solve words nodes asks also =
+    let is = asks.4 in
+    let so = also.3 in
+    let same : codes "check" ≡ codes "solve" = cc in
+    cc
+
+check_or_gen : (words : List (List ℕ)) (number size : ℕ) (behind : List (List ℕ)) → Asks Check words → AsksGen number size behind words → ⊥
+check_or_gen words number size behind asks also =
+    let is = asks.4 in
+    let so = also.3 in
+    let same : codes "check" ≡ codes "gen" = cc in
+    cc
+
 -- the number, the size and what stands behind them are told by the words
 one_number : (words : List (List ℕ)) (number size other another : ℕ) (behind behinds : List (List ℕ)) → AsksGen number size behind words → AsksGen other another behinds words → number ≡ other
 one_number words number size other another behind behinds asks also =
@@ -63,6 +78,13 @@ pub one_command : (words : List (List ℕ)) (command other : Command) → Asks c
 one_command words (Solve nodes) (Solve others) asks also = ap Solve (one_budget words nodes others asks also)
 one_command words (Solve nodes) (Gen number size) asks also = absurd (solve_or_gen words nodes number size _ asks also)
 one_command words (Solve nodes) (GenSolve number size) asks also = absurd (solve_or_gen words nodes number size _ asks also)
+one_command words (Solve nodes) Check asks also = absurd (check_or_solve words nodes also asks)
+one_command words Check (Solve nodes) asks also = absurd (check_or_solve words nodes asks also)
+one_command words Check Check asks also = refl
+one_command words Check (Gen number size) asks also = absurd (check_or_gen words number size _ asks also)
+one_command words Check (GenSolve number size) asks also = absurd (check_or_gen words number size _ asks also)
+one_command words (Gen number size) Check asks also = absurd (check_or_gen words number size _ also asks)
+one_command words (GenSolve number size) Check asks also = absurd (check_or_gen words number size _ also asks)
 one_command words (Gen number size) (Solve nodes) asks also = absurd (solve_or_gen words nodes number size _ also asks)
 one_command words (Gen number size) (Gen other another) asks also =
     let numbers = one_number words number size other another _ _ asks also in

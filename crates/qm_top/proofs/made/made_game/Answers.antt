@@ -2,7 +2,7 @@ use Rattle.std.proofs.Common.{◌≡◌, ◌∙◌}
 use Rattle.qm_gen.specs.Generated.{generated_problem, generated_text}
 use Rattle.qm_top.specs.Report.{status_of, text_of}
 use Rattle.qm_top.specs.declared.stated.Stated.TheVariants as stating
-use Rattle.qm_top.proofs.Answering.{lent}
+use Rattle.qm_top.proofs.Telling.{lent}
 use Rattle.qm_top.proofs.made.made_game.Goals as goal
 
 pub unreachable-requires : goal.unreachable-requires

@@ -1,11 +1,11 @@
 use Rattle.std.proofs.Common.{refl}
-use Rattle.qm_top.specs.Answers.{longer, whole_text}
+use Rattle.qm_top.specs.Readings.{longer, whole_text}
 use Rattle.qm_top.proofs.solve.solve.Goals as goal
 
 pub returns-in-Ok-Longer-clause-solves : goal.returns-in-Ok-Longer-clause-solves
 returns-in-Ok-Longer-clause-solves g c =
     let whole = rw c.in-Ok-Longer.field-0-is at c.in-Ok-Longer.ensures.whole in
-    longer whole.0 whole.1 whole.2 refl refl
+    longer whole.0 whole.1 whole.2 tt refl refl
 
 pub returns-in-Ok-Bytes-clause-solves : goal.returns-in-Ok-Bytes-clause-solves
 returns-in-Ok-Bytes-clause-solves g c =

@@ -1,6 +1,6 @@
 use Rattle.std.proofs.Common.{refl}
 use Rattle.qm_top.specs.Answers.{claimed, left, spent}
-use Rattle.qm_top.proofs.Answering.{claims_of}
+use Rattle.qm_top.proofs.Checked.{claims_of}
 use Rattle.qm_top.proofs.solve.solve_game.Goals as goal
 
 pub returns-in_ok-write-in-Ok : goal.returns-in_ok-write-in-Ok
