@@ -34,6 +34,8 @@ fn check_game<C: Source>(alloc: Global, game: &Game, certificate: &mut C) -> Rep
     ensures later { C.faults certificate.old ≤ C.faults certificate.new }
     ensures checks { ChecksProblem (reading (C.rest certificate.old) (C.rest certificate.new) (C.faults certificate.old) (C.faults certificate.new)) game.now (status_of result) (text_of result) }
 {
+    // that the problem is in order
+    let _problem = game.problem();
     let told = qm_check::check(alloc, game, certificate);
     match verdict_report(alloc, told) {
         Ok(report) => report,

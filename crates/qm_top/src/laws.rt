@@ -1,9 +1,11 @@
-ghost use Rattle.std.specs.Prelude.{◌≡◌, ◌⊎◌, ℕ, List};
+ghost use Rattle.std.specs.Prelude.{◌≡◌, ◌≤◌, ◌⊎◌, ℕ, List, length};
 ghost use Rattle.qm_model.specs.declared.game.Problem.{Problem};
 ghost use Rattle.qm_normal.specs.Stated.{States};
 ghost use Rattle.qm_certfile.specs.declared.certificate.Certificate.{Certificate};
 ghost use Rattle.qm_certfile.specs.CertificateLines.{certificate_text};
 ghost use Rattle.qm_certfile.specs.Passes.{Passes};
+ghost use Rattle.qm_check.specs.Checking.{numbered_fault};
+ghost use Rattle.qm_check.specs.Texts.{IsFine};
 ghost use Rattle.qm_top.specs.Answers.{Claims};
 ghost use Rattle.qm_top.specs.Refusals.{Refuses};
 
@@ -26,4 +28,12 @@ pub fn a_printed_text_has_one_certificate()
     ensures passing { (bytes : List ℕ) (P : Problem) (c d : Certificate) →
         States bytes P → Passes P c → Passes P d → certificate_text P c ≡ certificate_text P d → c ≡ d }
     ensures claimed { (bytes : List ℕ) (P : Problem) (text : List ℕ) → States bytes P → (one other : Claims P text) → one.certificate ≡ other.certificate }
+{}
+
+/// What `solve` prints with status 0 is accepted by `check`, where it has at most as many bytes as a certificate may have:
+/// no line is at fault in a text that shows its claim about the problem that the bytes state. And a text without fault
+/// shows its claim, whatever its length.
+pub fn a_text_has_no_fault_where_it_shows_its_claim()
+    ensures accepted { (bytes : List ℕ) (P : Problem) (text : List ℕ) → States bytes P → length text ≤ 268435456 → Claims P text → IsFine (numbered_fault P text) }
+    ensures shown { (bytes : List ℕ) (P : Problem) (text : List ℕ) → States bytes P → IsFine (numbered_fault P text) → Claims P text }
 {}

@@ -3,9 +3,11 @@
 //! exit status; the sink took exactly the text that goes with it, or failed and took a part of one.
 //! What may be answered is one relation of words, input, status and text (`specs/Answers.antt`): a certificate that passes
 //! the judgement of `qm_certfile` and what it claims is how the problem ends, a lawful journal that spends the budget
-//! (`specs/SpentLines.antt`), or the line of `specs/FaultLines.antt` that says why there is no problem
+//! (`specs/SpentLines.antt`), what the first line at fault of a given certificate is, or that it has none
+//! (`specs/CheckLines.antt`), or the line of `specs/FaultLines.antt` that says why there is no problem
 //! (`specs/Refusals.antt`) or no answer. Words and bytes decide which of these comes, but for
 //! want of memory (`specs/Completeness.antt`), as any bytes state a problem or are refused, and not both (`stated_or_refused`).
+//! What `solve` prints as a certificate `check` accepts (`a_text_has_no_fault_where_it_shows_its_claim`).
 //! The text of a certificate that is printed has no other certificate that passes (`a_printed_text_has_one_certificate`).
 //! `stated_by` is its first half alone: the game that a text states, or the report that refuses it
 //! (`specs/Stating.antt`). Text, tokens and syntax tree are gone when the search begins.
@@ -28,7 +30,10 @@ mod stated;
 mod summary_lines;
 mod top;
 
-pub use laws::{a_printed_text_has_one_certificate, stated_or_refused};
+pub use laws::{
+    a_printed_text_has_one_certificate, a_text_has_no_fault_where_it_shows_its_claim,
+    stated_or_refused,
+};
 pub use report::Report;
 pub use stated::{Stated, stated_by};
 pub use top::run;
