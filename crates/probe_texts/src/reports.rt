@@ -15,7 +15,8 @@ struct Outside {
     ghost some: { 0 < piece },
 }
 
-/// The status and the text of a report, by its words and its problem, as `solve f | "MAX x"`.
+/// The status and the text of a report, by its words and its problem, as `solve f | "MAX x"`, and where `check` is asked for
+/// by the certificate behind them, as `check f c | "MAX x" | "empty\n"`.
 pub fn report_of(alloc: Global, asked: &str) -> Result<String, AllocError> {
     let outside = Outside {
         piece: 4096,
@@ -25,7 +26,8 @@ pub fn report_of(alloc: Global, asked: &str) -> Result<String, AllocError> {
     answered(alloc, &outside, asked)
 }
 
-/// The same in pieces of some bytes, where a read and a write may fail, counted from 1: `7 3 0 solve f | "MAX x"`.
+/// The same in pieces of some bytes, where a read of each source and a write may fail, counted from 1:
+/// `7 3 0 solve f | "MAX x"`.
 pub fn report_in_pieces(alloc: Global, asked: &str) -> Result<String, AllocError> {
     match outside_of(asked) {
         Some((outside, asked)) => answered(alloc, &outside, asked),
@@ -52,9 +54,13 @@ fn answered(alloc: Global, outside: &Outside, asked: &str) -> Result<String, All
     let Some((words, written)) = asked.split_once("| ") else {
         return String::from_str(alloc, "?");
     };
-    match bytes_of(alloc, written)? {
-        Some(text) => status_and_text(alloc, outside, words, &text),
-        None => String::from_str(alloc, "?"),
+    // a certificate may stand behind the problem
+    let (problem, certificate) = written.split_once(" | ").unwrap_or((written, "\"\""));
+    match (bytes_of(alloc, problem)?, bytes_of(alloc, certificate)?) {
+        (Some(problem), Some(certificate)) => {
+            status_and_text(alloc, outside, words, &problem, &certificate)
+        }
+        _ => String::from_str(alloc, "?"),
     }
 }
 
@@ -62,10 +68,12 @@ fn status_and_text(
     alloc: Global,
     outside: &Outside,
     words: &str,
-    text: &[u8],
+    problem: &[u8],
+    certificate: &[u8],
 ) -> Result<String, AllocError> {
     let words = words_of(alloc, words)?;
-    let (status, out) = report(alloc, outside, &words, text).map_err(|_| AllocError)?;
+    let (status, out) =
+        report(alloc, outside, &words, problem, certificate).map_err(|_| AllocError)?;
     let text = one_line(alloc, out.bytes())?;
     format!(in alloc; "{status} {text}")
 }
@@ -74,10 +82,11 @@ fn report(
     alloc: Global,
     outside: &Outside,
     words: &[String],
-    text: &[u8],
+    problem: &[u8],
+    certificate: &[u8],
 ) -> Result<(u8, MemorySink), Memory> {
-    let mut problem = source_of(alloc, text, outside.piece, outside.failing_read)?;
-    let mut certificate = source_of(alloc, b"", 1, 0)?;
+    let mut problem = source_of(alloc, problem, outside.piece, outside.failing_read)?;
+    let mut certificate = source_of(alloc, certificate, outside.piece, outside.failing_read)?;
     let mut moves = source_of(alloc, b"", 1, 0)?;
     let mut out = sink_of(alloc, outside.piece, outside.failing_write)?;
     let status = run(
