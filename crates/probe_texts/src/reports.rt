@@ -72,8 +72,9 @@ fn status_and_text(
     certificate: &[u8],
 ) -> Result<String, AllocError> {
     let words = words_of(alloc, words)?;
-    let (status, out) =
-        report(alloc, outside, &words, problem, certificate).map_err(|_| AllocError)?;
+    let (status, out) = report(alloc, outside, &words, problem, certificate).map_err(
+        |_| AllocError,
+    )?;
     let text = one_line(alloc, out.bytes())?;
     format!(in alloc; "{status} {text}")
 }

@@ -47,8 +47,7 @@ fn check_game<C: Source>(alloc: Global, game: &Game, certificate: &mut C) -> Rep
 fn check_text<C: Source>(alloc: Global, text: List<u8>, certificate: &mut C) -> Report
     requires { length text ≤ 4194304 }
     ensures later { C.faults certificate.old ≤ C.faults certificate.new }
-    ensures checks {
-        let read = reading (C.rest certificate.old) (C.rest certificate.new) (C.faults certificate.old) (C.faults certificate.new) in
+    ensures checks { let read = reading (C.rest certificate.old) (C.rest certificate.new) (C.faults certificate.old) (C.faults certificate.new) in
         TellsText (IsUnread read) (ChecksProblem read) text (status_of result) (text_of result) }
 {
     let stated = stated_by(alloc, text.as_slice());

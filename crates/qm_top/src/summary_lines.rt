@@ -44,7 +44,10 @@ pub fn summary_text(alloc: Global, game: &Game, solved: &Solved) -> Result<List<
 {
     let certificate = write(alloc, game, &solved.certificate)?;
     let mut text = List::new(alloc);
-    write_claim(claim_of(game.problem().sense, &solved.certificate), &mut text)?;
+    write_claim(
+        claim_of(game.problem().sense, &solved.certificate),
+        &mut text,
+    )?;
     write_counted(b"nodes", solved.journal.entries().len(), &mut text)?;
     write_counted(b"certificate", certificate.len(), &mut text)?;
     Ok(text)
