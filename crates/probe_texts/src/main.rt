@@ -7,8 +7,9 @@
 //! as `line 0 "ab\n"`; the number that it spells as `decimal`, as `fraction` or as `whole` number.
 //! Of a number and a size: the text that is `made` of them, and its `bytes`, as `made 1 3`.
 //! Of a certificate's text: what is read of it for a game, as `certificate "MAX 3 ST ORDER END" | "optimal 3\n"`.
-//! Of the top call: the status and the text of its `report`, as `report solve f | "MAX x"`, and so in `pieces` of some
-//! bytes, where a read or a write may fail, as `pieces 7 3 0 solve f | "MAX x"`. ` /` stands where a line ends.
+//! Of the top call: the status and the text of its `report`, as `report solve f | "MAX x"`, for `check` with the certificate
+//! behind the problem, as `report check f c | "MAX 3 ST ORDER END" | "optimal 3\n"`; and so in `pieces` of some bytes, where a
+//! read of each source or a write may fail, as `pieces 7 3 0 solve f | "MAX x"`. ` /` stands where a line ends.
 //! Of sources and sinks in memory: what comes of a `read` in pieces, what its `calls` give, and what a sink takes that a
 //! text is `put` into, as `put 2 0 "hel" | "lo"`.
 #![tactic(auto)]
