@@ -62,7 +62,7 @@ module _ (law : OneDecimal) (Behind : Type 0) (OfProblem : Problem → ℕ → L
   stated_answered P states (inl (out_of_memory behind is line)) = inr (is, line)
   stated_answered P states (inr memory) = inr memory
 
-  refused_answered : (due : ℕ) (told : List ℕ) → Refuses bytes due told → TellsText Behind OfProblem bytes status text ⊎ IsNoMemory status text → AreSame due status told text ⊎ IsNoMemory status text
+  refused_answered : (due : ℕ) (told : List ℕ) → Refuses bytes due told → TellsText Behind OfProblem bytes status text ⊎ IsNoMemory status text → AreSame status due text told ⊎ IsNoMemory status text
   refused_answered due told refusal (inl (stated P states answer)) = absurd (not_refused law bytes P due told states refusal)
   refused_answered due told refusal (inl (refused also behind)) = inl (one_refusal law bytes status due text told also refusal)
   refused_answered due told refusal (inl (out_of_memory behind is line)) = inr (is, line)
