@@ -105,6 +105,7 @@ claim_told P c text claim sound fits is claims =
 
 accepted_told : (P : Problem) (bytes : List ℕ) (claim : Claim) (status : ℕ) (text : List ℕ) → IsSound P → IsFine (numbered_fault P bytes) → first.Claims bytes claim
     → status ≡ 0 → text ≡ accepted_line (line_of (claim_node claim)) → ChecksText P bytes status text
+unfolding claims_of
 accepted_told P bytes claim status text sound fine claims is told =
     let of = (no_fault_law P sound bytes).0 (no_fault P bytes fine) in
     accepted fine (claims_of P of.0 bytes sound of.2 (sym of.3)) is (told ∙ ap accepted_line (claim_told P of.0 bytes claim sound of.1 of.3 claims))

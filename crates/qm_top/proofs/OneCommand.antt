@@ -1,11 +1,12 @@
 -- Words ask for one command.
-use Rattle.std.proofs.Common.{◌≡◌, ℕ, List, [], ◌∷◌, inl, inr, refl, sym, ap, subst, ◌∙◌, arith}
+use Rattle.std.proofs.Common.{◌≡◌, ℕ, List, [], ◌∷◌, inl, inr, refl, sym, ap, subst, ◌∙◌, arith, get_or}
 use Rattle.std.specs.Prelude.{codes}
 use Rattle.std.specs.Fmt.{decimal}
 use Rattle.std.proofs.lemmas.Fmt.{decimal_injective}
 use Rattle.qm_top.specs.declared.command.Command.{Command}
 use Rattle.qm_top.specs.declared.command.Command.TheVariants.{Check, Gen, GenSolve, Solve}
 use Rattle.qm_top.specs.Words.{Asks, AsksGen, AsksNodes}
+use Rattle.qm_top.proofs.Asking.{check_isnt_solve}
 
 nodes_once : (words : List (List ℕ)) (nodes others : ℕ) → AsksNodes nodes words → AsksNodes others words → nodes ≡ others
 nodes_once words nodes others (inl none) (inl also) = none.1 ∙ sym also.1
@@ -43,8 +44,7 @@ check_or_solve : (words : List (List ℕ)) (nodes : ℕ) → Asks Check words �
 check_or_solve words nodes asks also =
     let is = asks.4 in
     let so = also.3 in
-    let same : codes "check" ≡ codes "solve" = cc in
-    cc
+    check_isnt_solve (ap (λ ws. get_or ws 0 []) (sym is ∙ so))
 
 check_or_gen : (words : List (List ℕ)) (number size : ℕ) (behind : List (List ℕ)) → Asks Check words → AsksGen number size behind words → ⊥
 check_or_gen words number size behind asks also =
